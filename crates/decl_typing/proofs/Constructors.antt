@@ -22,7 +22,6 @@ use Rattle.typing_model.specs.Records.{is_among}
 use Rattle.typing_model.specs.Declarations.{read_optional, constructors_read, constructors_new}
 use Rattle.env_table.specs.declared.entries.Entry.{Entry}
 use Rattle.typing_state.specs.declared.parts.Parts.{Parts}
-use Rattle.typing_state.specs.Messages.{twice_text}
 use Rattle.typing_state.specs.Goes.{Goes}
 use Rattle.typing_conditions.proofs.Equals.{judged_as}
 use Rattle.typing_conditions.specs.Sights.{Sight}
@@ -119,7 +118,7 @@ all_constructors {a = a} {all = all} x y =
 -- the demand that a name is new, as a call asks it
 pub new_judges : (a b : Parts) {B : Before} (n k : ℕ) (t : Token) (again : Bool) → is_aloud a.telling ≡ true → AsksNew again t a b →
     Judges B (λ c. ask n k (place_of t.span) (test (twice (str_bytes t.name)) (not again))) (sight a) (sight b) (site n k) (not again)
-new_judges a b n k t true aloud told = complaint_judges a b (twice_text (str_bytes t.name)) (twice (str_bytes t.name)) (site n k) aloud told
+new_judges a b n k t true aloud told = complaint_judges a b (twice (str_bytes t.name)) (site n k) aloud told
 new_judges a b n k t false aloud same = test_judges (twice (str_bytes t.name)) (site n k) true (ap (λ p. (sight p).reports) same)
 
 -- whether two names are one doesn't depend on which of them comes first

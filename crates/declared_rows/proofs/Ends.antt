@@ -19,6 +19,8 @@ use Rattle.env_table.specs.declared.entries.Entry.{Entry}
 use Rattle.env_table.specs.declared.faults.FaultKind.TheVariants as fault
 use Rattle.typing_state.specs.declared.parts.Parts.{Parts}
 use Rattle.typing_state.specs.declared.demands.Verdict.{Verdict}
+use Rattle.typing_state.specs.declared.messages.Word.TheVariants as word
+use Rattle.typing_state.specs.Messages.{unbound_text}
 use Rattle.typing_state.specs.Demands.{ArityIs}
 use Rattle.typing_state.specs.Goes.{faults_of, Told, OnlyStore, OnlyFaults}
 use Rattle.typing_conditions.specs.Frames.{Frame}
@@ -48,11 +50,11 @@ variable_denotes a env names ps n t k m found there = λ aloud B around F arity 
     }))
 
 -- 'a, which is none
-pub variable_unknown : (a b d : Parts) (env : List Entry) (names : List Name) (ps : List ℕ) (n : ℕ) (t : Tok) (span : Span) (message : List ℕ) (m : ℕ) → place_of span ≡ parts.place_of t → index_from 0 t.name names ≡ None → Told a.telling (faults_of a) (faults_of b) span fault.Bound message → OnlyFaults a b →
+pub variable_unknown : (a b d : Parts) (env : List Entry) (names : List Name) (ps : List ℕ) (n : ℕ) (t : Tok) (span : Span) (m : ℕ) {x : Name} → place_of span ≡ parts.place_of t → index_from 0 t.name names ≡ None → x ≡ t.name → Told a.telling (faults_of a) (faults_of b) span fault.Bound (unbound_text word.TypeVariable x) → OnlyFaults a b →
     MakesUnknown b d m → DenotesAlone a d env names ps (λ c. variable_asks c n t c.variables) n m
-variable_unknown a b d env names ps n t span message m place none told rest made = λ aloud B around F arity U A inside.
+variable_unknown a b d env names ps n t span m place none named told rest made = λ aloud B around F arity U A inside.
     let x = unbound type_variable_word t.name in
-    let j = subst (λ p. Judges B (λ c. demand (site n 0) p (test x false) ∷ []) (sight a) (sight b) (site n 0) false) place (complaint_judges a b {B = B} message x (site n 0) aloud told) in
+    let j = subst (λ p. Judges B (λ c. demand (site n 0) p (test x false) ∷ []) (sight a) (sight b) (site n 0) false) place (complaint_judges a b {B = B} x (site n 0) aloud (subst (λ y. Told a.telling (faults_of a) (faults_of b) span fault.Bound (unbound_text word.TypeVariable y)) named told)) in
     end_here (λ c h. sym (ap (variable_asks c n t) (h.variables ∙ ap parameters around.1) ∙ ap (by_number c n t) none))
     (judged_denoted a b d j rest inside.assigns (unknown_denoted b d (λ c. unresolved c n) n m (λ c h. refl) names around.1 (faults_assigns a b rest inside.assigns) made))
 

@@ -159,7 +159,7 @@ module _ (a b e : Parts) (env : List Entry) (names : List Name) (ps : List ℕ) 
 
   pub name_looked_up : EndDenoted B (λ c. constructor_asks c n (path_to qs t) ns) F arity U a e A n m
   name_looked_up =
-      judged_denoted a b e (bound_judges a b {B = B} given word.Type qs t kind.TypeName type_word (site n 0) around.0 aloud bound) faults inside.assigns (by_found (found_at env qs kind.TypeName t) refl bound)
+      judged_denoted a b e (bound_judges a b {B = B} given word.Type qs t kind.TypeName type_word refl (site n 0) around.0 aloud bound) faults inside.assigns (by_found (found_at env qs kind.TypeName t) refl bound)
 
 -- A constructor of types whose name is there.
 pub name_denotes : (a b e : Parts) (env : List Entry) (names : List Name) (ps : List ℕ) (given : Option Entry) (qs : List Tok) (t : Tok) (ns ms : List ℕ) (n m : ℕ) → BoundIs (found_at env qs kind.TypeName t) given a b (lost_among env qs) t word.Type → DenotesNamed given b e names t ms m →

@@ -20,15 +20,14 @@ use Rattle.typing_model.specs.Parts as parts
 use Rattle.typing_model.specs.Contexts.{Choice, Context, Bound, entries_with, with_names, monomorphic}
 use Rattle.query_model.specs.Faults.{TyperKind}
 use Rattle.query_model.specs.Faults as kinds
-use Rattle.fault_model.specs.Refused.{kind_of_complaint, kind_asked, Refused, refused_of}
+use Rattle.fault_model.specs.Refused.{kind_of_complaint, kind_asked, Refused, refused_as, refused_of}
 use Rattle.typing_conditions.specs.Judging.{is_closing, Judgement, judgements, judged_at}
 
--- a demand that is made: its site, whether it is kept, where it stands, and its kind
+-- a demand that is made: its site, whether it is kept, and which fault it is where it isn't
 pub record Asked : Type 0 where
   pub site : Site
   pub kept : Bool
-  pub at : Place
-  pub kind : TyperKind
+  pub fault : Refused
 
 -- the demands of conditions, in order
 abbrev pub asked_of : (Site → Bool) → List Condition → List Asked
@@ -37,7 +36,7 @@ asked_of kept (same t u ∷ cs) = asked_of kept cs
 asked_of kept (instance s t ∷ cs) = asked_of kept cs
 asked_of kept (made n t ∷ cs) = asked_of kept cs
 asked_of kept (demands.known t ∷ cs) = asked_of kept cs
-asked_of kept (demand s at d ∷ cs) = record { site = s; kept = kept s; at = at; kind = kind_asked d } ∷ asked_of kept cs
+asked_of kept (demand s at d ∷ cs) = record { site = s; kept = kept s; fault = refused_as at d } ∷ asked_of kept cs
 asked_of kept (treated n env ∷ cs) = asked_of kept cs
 
 -- the same demands are made, in order
@@ -66,7 +65,7 @@ asked_all kept (same t u ∷ xs) ys = asked_all kept xs ys
 asked_all kept (instance s t ∷ xs) ys = asked_all kept xs ys
 asked_all kept (made n t ∷ xs) ys = asked_all kept xs ys
 asked_all kept (demands.known t ∷ xs) ys = asked_all kept xs ys
-asked_all kept (demand s at d ∷ xs) ys = ap (λ js. record { site = s; kept = kept s; at = at; kind = kind_asked d } ∷ js) (asked_all kept xs ys)
+asked_all kept (demand s at d ∷ xs) ys = ap (λ js. record { site = s; kept = kept s; fault = refused_as at d } ∷ js) (asked_all kept xs ys)
 asked_all kept (treated n env ∷ xs) ys = asked_all kept xs ys
 
 -- and so are further ones behind
@@ -74,13 +73,13 @@ pub behind : {xs ys us vs : List Condition} → Same xs ys → Same us vs → Sa
 behind {xs} {ys} {us} {vs} h g = alone (λ kept.
     asked_all kept xs us ∙ ap (λ js. js ++ asked_of kept us) (h.each kept) ∙ ap (λ js. asked_of kept ys ++ js) (g.each kept) ∙ sym (asked_all kept ys vs))
 
--- a demand in front, of the same kind
-at_place : {s : Site} {p q : Place} {d e : Demand} {cs ds : List Condition} → p ≡ q → kind_asked d ≡ kind_asked e → Same cs ds → Same (demand s p d ∷ cs) (demand s q e ∷ ds)
-at_place {s} {p} {q} {d} {e} {cs} {ds} place c h = alone (λ kept. λ i. record { site = s; kept = kept s; at = place i; kind = c i } ∷ h.each kept i)
+-- a demand in front, with the same fault
+at_place : {s : Site} {p q : Place} {d e : Demand} {cs ds : List Condition} → refused_as p d ≡ refused_as q e → Same cs ds → Same (demand s p d ∷ cs) (demand s q e ∷ ds)
+at_place {s} {p} {q} {d} {e} {cs} {ds} told h = alone (λ kept. λ i. record { site = s; kept = kept s; fault = told i } ∷ h.each kept i)
 
 -- and at the same place
-pub at_demand : {s : Site} {p : Place} {d e : Demand} {cs ds : List Condition} → kind_asked d ≡ kind_asked e → Same cs ds → Same (demand s p d ∷ cs) (demand s p e ∷ ds)
-at_demand c h = at_place refl c h
+pub at_demand : {s : Site} {p : Place} {d e : Demand} {cs ds : List Condition} → refused_as p d ≡ refused_as p e → Same cs ds → Same (demand s p d ∷ cs) (demand s p e ∷ ds)
+at_demand told h = at_place told h
 
 -- whether a kind is that of what a body closes
 abbrev closes_body : TyperKind → Bool
@@ -110,10 +109,10 @@ closing_by_kind (demands.closes e s) = refl
 
 -- a demand as it is judged, and as a fault where it isn't kept
 abbrev judgement_of : Asked → Judgement
-judgement_of a = judged_at a.site a.kept (closes_body a.kind)
+judgement_of a = judged_at a.site a.kept (closes_body a.fault.kind)
 
 abbrev refused_first : Asked → List Refused → List Refused
-refused_first a rs = if a.kept then rs else record { at = a.at; kind = a.kind } ∷ rs
+refused_first a rs = if a.kept then rs else a.fault ∷ rs
 
 abbrev refused_among : List Asked → List Refused
 refused_among [] = []
@@ -134,7 +133,7 @@ refused_are kept (same t u ∷ cs) = refused_are kept cs
 refused_are kept (instance s t ∷ cs) = refused_are kept cs
 refused_are kept (made n t ∷ cs) = refused_are kept cs
 refused_are kept (demands.known t ∷ cs) = refused_are kept cs
-refused_are kept (demand s at d ∷ cs) = ap (λ rs. if kept s then rs else record { at = at; kind = kind_asked d } ∷ rs) (refused_are kept cs)
+refused_are kept (demand s at d ∷ cs) = ap (λ rs. if kept s then rs else refused_as at d ∷ rs) (refused_are kept cs)
 refused_are kept (treated n env ∷ cs) = refused_are kept cs
 
 -- So they are judged alike, and the same faults are left of them.
@@ -301,8 +300,8 @@ lost_alike : {E F : Environment} (path : List Name) (qs : List Tok) → NamesAli
 lost_alike path [] h = refl
 lost_alike path (q ∷ qs) h = (λ i. if is_no_scope (path_alike path q.name h i) then Some q else lost_alike (path ++ q.name ∷ []) qs h i)
 
--- So the demand that a path is bound stands at one place.
+-- So the demand that a path is bound stands at one place, and complains in the same words.
 pub at_bound : (c : Two) (n k : ℕ) (kind : Kind) (w : Word) (p : parts.Written) (t : Tok) {cs ds : List Condition} → Same cs ds → Same (ask_bound (left c) n k kind w p t ++ cs) (ask_bound (right c) n k kind w p t ++ ds)
 at_bound c n k kind w p t h =
     let lost : lost_behind (left c).env [] p.qualifiers ≡ lost_behind (right c).env [] p.qualifiers = lost_alike [] p.qualifiers c.names in
-    at_place (ap (λ l. place_unbound l t) lost) (ap (λ l. kind_of_complaint (complaint_unbound l w t)) lost) h
+    at_place (ap (λ l. refused_as (place_unbound l t) (demands.test (complaint_unbound l w t) false)) lost) h

@@ -33,6 +33,7 @@ use Rattle.typing_model.specs.Patterns.{behind_first}
 use Rattle.env_table.specs.declared.entries.Entry.{Entry}
 use Rattle.typing_state.specs.declared.parts.Parts.{Parts}
 use Rattle.typing_state.specs.Goes.{Goes, OnlyStore, OnlyFaults, Told, faults_of, Silent}
+use Rattle.typing_state.specs.Messages.{not_mutable_text}
 use Rattle.typing_state.specs.Types.{list_path}
 use Rattle.pattern_names.specs.PatternNames.{later}
 use Rattle.typing_conditions.specs.Sights.{Sight, Letters}
@@ -105,15 +106,15 @@ settable_missing a p mutable none = subst (λ o. AsksSettable a a (record { qual
 pub settable_held : (a : Parts) (p : WrittenPath) (t : Bor Token) (mutable : Bool) → p.last ≡ Some t → mutable ≡ true → AsksSettable a a (path_as (path_view p)) mutable
 settable_held a p t mutable there is =
     subst (λ o. AsksSettable a a (record { qualifiers = (path_view p).qualifiers; last = token_view o }) mutable) (sym there)
-    (asks_settable a a t.now.span [] (path_view p).qualifiers (tok_of t.now) mutable refl (subst (λ v. TestedAs v a a t.now.span fault.Mutable []) (sym is) refl))
+    (asks_settable a a t.now.span (path_view p).qualifiers (tok_of t.now) mutable refl (subst (λ v. TestedAs v a a t.now.span fault.Mutable (not_mutable_text (tok_of t.now).name)) (sym is) refl))
 
 -- where it isn't, and that is reported
-pub settable_told : {A E : Type 0} (r : Result A E) (a b : Parts) (p : WrittenPath) (t : Bor Token) (mutable : Bool) (message : List ℕ) → p.last ≡ Some t → mutable ≡ false → OnOk r (Told a.telling (faults_of a) (faults_of b) t.now.span fault.Mutable message) → OnlyFaults a b →
+pub settable_told : {A E : Type 0} (r : Result A E) (a b : Parts) (p : WrittenPath) (t : Bor Token) (mutable : Bool) {x : List ℕ} → x ≡ str_bytes t.now.name → p.last ≡ Some t → mutable ≡ false → OnOk r (Told a.telling (faults_of a) (faults_of b) t.now.span fault.Mutable (not_mutable_text x)) → OnlyFaults a b →
     OnOk r (AsksSettable a b (path_as (path_view p)) mutable)
-settable_told (Err e) a b p t mutable message there is told rest = tt
-settable_told (Ok x) a b p t mutable message there is told rest =
+settable_told (Err e) a b p t mutable named there is told rest = tt
+settable_told (Ok x) a b p t mutable named there is told rest =
     subst (λ o. AsksSettable a b (record { qualifiers = (path_view p).qualifiers; last = token_view o }) mutable) (sym there)
-    (asks_settable a b t.now.span message (path_view p).qualifiers (tok_of t.now) mutable refl (subst (λ v. TestedAs v a b t.now.span fault.Mutable message) (sym is) (told, rest)))
+    (asks_settable a b t.now.span (path_view p).qualifiers (tok_of t.now) mutable refl (subst (λ v. TestedAs v a b t.now.span fault.Mutable (not_mutable_text (tok_of t.now).name)) (sym is) (subst (λ n. Told a.telling (faults_of a) (faults_of b) t.now.span fault.Mutable (not_mutable_text n)) named told, rest)))
 
 -- the end of any other row
 other_end : (r : RowName) (t : Tree) (a b : Parts) (env : List Entry) (es : List Expression) (ms : List ℕ) (m : ℕ) → (r ≡ name.Field → ⊥) → IsOrderedRow (row_of r) → (IsPlainRow (row_of r) → EndsRow a b env (end_of (row_of r) es) es ms m) → EndsRow a b env (ordered_end (row_of r) t es) es ms m

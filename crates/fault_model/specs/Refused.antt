@@ -1,5 +1,5 @@
--- The demands of a text that aren't kept: where each stands, and which kind of fault it is.
-use Rattle.std.specs.Prelude.{◌≡◌, ℕ, ◌<◌, ◌^◌, Bool, true, false, List, [], ◌∷◌, All, if◌then◌else◌}
+-- The demands of a text that aren't kept: where each stands, which kind of fault it is, and what is reported of it.
+use Rattle.std.specs.Prelude.{◌≡◌, ℕ, ◌<◌, ◌^◌, Bool, true, false, List, [], ◌∷◌, All, Option, Some, None, if◌then◌else◌}
 use Rattle.token_model.specs.Kinds.{Tok}
 use Rattle.token_model.specs.Tokens.{Lex}
 use Rattle.tree_model.specs.Trees.{Place, Tree, size_of}
@@ -7,6 +7,7 @@ use Rattle.query_model.specs.Faults.{TyperKind, TyperFault}
 use Rattle.query_model.specs.Faults as fault
 use Rattle.signature_model.specs.Entries.{Environment}
 use Rattle.typing_model.specs.Demands.{Site, Complaint, unbound, arity, no_label, not_mutable, incomplete, twice, one_side, too_large, cyclic, differs, no_functor, no_abstract_type, Demand, equal, test, agrees, matches, closes, Condition, same, instance, made, known, demand, treated, AllHold}
+use Rattle.typing_model.specs.Messages.{complaint_text}
 use Rattle.typing_model.specs.Contexts.{Choice}
 use Rattle.typing_model.specs.Typings.{conditions_of, IsKept, IsPrincipal}
 use Rattle.typing_model.specs.First.{program_items, IsFirst}
@@ -35,10 +36,23 @@ kind_asked (agrees c n s t) = kind_of_complaint c
 kind_asked (matches A t) = fault.matching
 kind_asked (closes env s) = fault.closing
 
--- where a fault stands, and of which kind it is
+-- the message of a demand where it isn't kept; those that name types and signatures stay open
+abbrev pub says_asked : Demand → Option (List ℕ)
+says_asked (equal t u) = None
+says_asked (test c b) = Some (complaint_text c)
+says_asked (agrees c n s t) = Some (complaint_text c)
+says_asked (matches A t) = None
+says_asked (closes env s) = None
+
+-- where a fault stands, of which kind it is, and its message, where that is fixed
 pub record Refused : Type 0 where
   pub at : Place
   pub kind : TyperKind
+  pub says : Option (List ℕ)
+
+-- a demand at a place, as a fault
+abbrev pub refused_as : Place → Demand → Refused
+refused_as at d = record { at = at; kind = kind_asked d; says = says_asked d }
 
 -- the demands that aren't kept, in order
 abbrev pub refused_of : (Site → Bool) → List Condition → List Refused
@@ -47,7 +61,7 @@ refused_of kept (same t u ∷ cs) = refused_of kept cs
 refused_of kept (instance s t ∷ cs) = refused_of kept cs
 refused_of kept (made n t ∷ cs) = refused_of kept cs
 refused_of kept (known t ∷ cs) = refused_of kept cs
-refused_of kept (demand s at d ∷ cs) = if kept s then refused_of kept cs else record { at = at; kind = kind_asked d } ∷ refused_of kept cs
+refused_of kept (demand s at d ∷ cs) = if kept s then refused_of kept cs else refused_as at d ∷ refused_of kept cs
 refused_of kept (treated n env ∷ cs) = refused_of kept cs
 
 -- whether a kind is that of a warning
@@ -56,10 +70,17 @@ is_warning fault.missed = true
 is_warning fault.unused = true
 is_warning _ = false
 
--- the places and kinds of what is told, but for the warnings among it
+-- a message of a fault of a kind; those of the kinds that name types and signatures stay open
+abbrev pub says_by : TyperKind → List ℕ → Option (List ℕ)
+says_by fault.equal message = None
+says_by fault.matching message = None
+says_by fault.closing message = None
+says_by _ message = Some message
+
+-- the places, kinds and messages of what is told, but for the warnings among it
 abbrev pub standing : List TyperFault → List Refused
 standing [] = []
-standing (f ∷ fs) = if is_warning f.kind then standing fs else record { at = f.span; kind = f.kind } ∷ standing fs
+standing (f ∷ fs) = if is_warning f.kind then standing fs else record { at = f.span; kind = f.kind; says = says_by f.kind f.message } ∷ standing fs
 
 -- items of a text that are `let` and `;;` alone, each of fewer than 2^32 nodes
 pub record AreOfLets (items : List Tree) : Type 0 where
@@ -74,7 +95,7 @@ pub record IsOfLets (text : List ℕ) : Type 0 where
   pub lexed : Lex text tokens
   pub items : AreOfLets (program_items tokens)
 
--- What of the faults of items is fixed by a principal typing with the kept demands: the place and the kind of each, in the order of the demands.
+-- What of the faults of items is fixed by a principal typing with the kept demands: the place and the kind of each, and the message of those on names, in the order of the demands.
 pub record AreRefused (items : List Tree) (faults : List Refused) : Type 0 where
   pub env : Environment
   pub first : IsFirst env

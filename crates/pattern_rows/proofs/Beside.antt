@@ -165,7 +165,7 @@ sides_same a at first later none = λ aloud F scope G n k xs ys p q. asked_as (�
 pub sides_told : (a b : Parts) (at : Span) (first later : List Bind) (x : Name) → name_apart_here first later ≡ Some x → Told a.telling (faults_of a) (faults_of b) at fault.Sides (one_side_text x) → OnlyFaults a b → AsksSides a b (place_of at) first later
 sides_told a b at first later x some told rest = λ aloud F scope G n k xs ys p q.
     asked_as (λ c. ap (sides_differ (place_of at)) (sym (sides_apart_as p q ∙ some)))
-    (asked_one n k (place_of at) (λ c. test (complaint.one_side x) false) (complaint_told a b (one_side_text x) (complaint.one_side x) (site n k) aloud told rest).carried)
+    (asked_one n k (place_of at) (λ c. test (complaint.one_side x) false) (complaint_told a b (complaint.one_side x) (site n k) aloud told rest).carried)
 
 -- a name of the first side isn't on the later one
 pub name_alone : (a : Parts) (name : Bind) (later : List Bind) → find_bind name.token.name later ≡ None → AsksName a a name later

@@ -64,7 +64,7 @@ pub fn kept_demands_that_are_found_are_one()
     ensures { (text : List ℕ) (kept others : Site → Bool) (types shown : ℕ → Typ) (f : IsFound text kept types) → has_no_modules f.items ≡ true → IsFound text others shown → (s : Site) → kept s ≡ others s }
 {}
 
-/// The places and kinds of the faults of items that are `let` and `;;` alone are one.
+/// The places and kinds of the faults of items that are `let` and `;;` alone are one, and so are the messages of those on names.
 pub fn faults_of_lets_are_one()
     ensures { (items : List Tree) (faults others : List Refused) → has_lets_alone items ≡ true → AreRefused items faults → AreRefused items others → faults ≡ others }
 {}

@@ -15,7 +15,6 @@ use Rattle.env_table.specs.declared.entries.Label.{Label}
 use Rattle.env_table.specs.declared.entries.Shape.{Shape}
 use Rattle.typing_conditions.specs.Declared.{LabelAs, OneByOne, no_more, one_more, ShapeAs, tell_nothing, tell_constructors, tell_labels}
 use Rattle.typing_state.specs.declared.parts.Parts.{Parts}
-use Rattle.typing_state.specs.Messages.{incomplete_text}
 use Rattle.typing_conditions.specs.Carrying.{Carried}
 use Rattle.typing_conditions.proofs.Carried.{carried_as}
 use Rattle.typing_steps.specs.States.{sight}
@@ -69,4 +68,4 @@ complete_asked a b (Some r) seen span asks aloud F scope G n (Some e) known = by
   where
     by : (o : Option Name) → absent_label (labels_in e.shape) seen ≡ o → AsksAbsent o a b span → Carried F scope (λ c. ask_complete n 3 (place_of span) (Some e) seen) (sight a) G (sight b) G
     by None h same = carried_as (λ c. sym (none_absent n 3 (place_of span) e seen h)) (state_still a b same)
-    by (Some x) h tested = carried_as (λ c. sym (one_absent n 3 (place_of span) e seen x h)) (test_asked a b (incomplete_text x) (incomplete x) (site n 3) false aloud tested).carried
+    by (Some x) h tested = carried_as (λ c. sym (one_absent n 3 (place_of span) e seen x h)) (test_asked a b (incomplete x) (site n 3) false aloud tested).carried

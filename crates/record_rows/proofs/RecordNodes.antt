@@ -82,7 +82,7 @@ made_record a e d v env here at number l value os labels m carried finds fields 
 
 -- that a first part is no label is reported
 pub part_refused : (a b : Parts) (span : Span) → Told a.telling (faults_of a) (faults_of b) span fault.Label no_label_text → OnlyFaults a b → RefusesPart a b (view.place_of span)
-part_refused a b span told rest = λ aloud F scope G n. (complaint_told a b {F = F} {scope = scope} {G = G} no_label_text complaint.no_label (site n 0) aloud told rest).carried
+part_refused a b span told rest = λ aloud F scope G n. (complaint_told a b {F = F} {scope = scope} {G = G} complaint.no_label (site n 0) aloud told rest).carried
 
 -- also before the fields that are missing
 pub refused_then : (a b d : Parts) (at : Place) → RefusesPart a b at → OnlyNotes b d → RefusesPart a d at

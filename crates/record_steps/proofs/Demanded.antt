@@ -6,6 +6,7 @@ use Rattle.type_model.specs.Schemes.{Scheme}
 use Rattle.signature_model.specs.Declarations as rules
 use Rattle.signature_model.specs.Entries.{Environment}
 use Rattle.typing_model.specs.Demands.{site, demand, test, label_word}
+use Rattle.typing_model.specs.Messages.{complaint_text}
 use Rattle.typing_model.specs.Contexts.{Context, ask, is_kept}
 use Rattle.typing_model.specs.Parts as parts
 use Rattle.typing_model.specs.Names as names
@@ -126,7 +127,7 @@ module _ {F : Frame} {scope : Scope} {G : Letters} {env : List Entry} (a : Parts
   pub labels_refused : (b : Parts) → is_aloud a.telling ≡ true → is_found_here (found_here env ps) ≡ false → TellsNone (lost_of env ps) (first_token ps) a b → OnlyFaults a b → AsksLabels F scope (sight a) G (sight b) n k ps false
   labels_refused b aloud found tells rest = by (first_token ps) refl tells
     where
-      lost_tells : (o : Option Tok) (t : Tok) → TellsLost o a b t word.Label → Tells (sight a) (sight b) (place_unbound o t) fault.Bound
+      lost_tells : (o : Option Tok) (t : Tok) → TellsLost o a b t word.Label → Tells (sight a) (sight b) (place_unbound o t) fault.Bound (complaint_text (complaint_unbound o label_word t))
       lost_tells None t told = tells_unbound a b word.Label t.name aloud told
       lost_tells (Some q) t told = tells_unbound a b word.Module q.name aloud told
 

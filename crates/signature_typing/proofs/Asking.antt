@@ -81,14 +81,14 @@ enters_same {G = G} {V = V} nodes types e = record {
 }
 
 -- What is asked is carried, where it is reported if the name stands already.
-pub name_asked : {a b : Sight} {G : Letters} {env : List Entry} {E : Choice → Environment} (at : Outside as_declared a G env E) (n : ℕ) (seen : List Name) (x : Tok) → OnlyReports a b → IsTold a b (place_of x) fault.Unique (not (is_among x.name seen)) → ItemsCarried E (λ c. ask_new n seen (Some x)) a G b G
+pub name_asked : {a b : Sight} {G : Letters} {env : List Entry} {E : Choice → Environment} (at : Outside as_declared a G env E) (n : ℕ) (seen : List Name) (x : Tok) → OnlyReports a b → IsTold a b (place_of x) fault.Unique (twice_text x.name) (not (is_among x.name seen)) → ItemsCarried E (λ c. ask_new n seen (Some x)) a G b G
 name_asked {a} {b} {env = env} at n seen x only told =
     let (I, own) = own_of a.nodes at.sound in
     let j : Judges (among env (known_by at.names I) []) (λ c. ask_new n seen (Some x)) a b (site n 1) (not (is_among x.name seen)) = test_judges (twice x.name) (site n 1) (not (is_among x.name seen)) told in
     items_settled at (types_told at.sound only) I own [] j.settled (λ c. ask_new n seen (Some x)) (λ c. refl) j.reports only.aloud only.fixed (λ V fits. (V, subst (λ ns. Fits ns V) (sym only.nodes) fits, λ m lt. refl)) n
 
 -- a name that stands already is reported once, where faults are reported
-pub told_new : (a b : Parts) (at : Span) (name : Name) (again : Bool) → is_aloud a.telling ≡ true → ToldTwice a.telling (faults_of a) (faults_of b) at (told_again again name) → IsTold (sight a) (sight b) (view.place_of at) fault.Unique (not again)
+pub told_new : (a b : Parts) (at : Span) (name : Name) (again : Bool) → is_aloud a.telling ≡ true → ToldTwice a.telling (faults_of a) (faults_of b) at (told_again again name) → IsTold (sight a) (sight b) (view.place_of at) fault.Unique (twice_text name) (not again)
 told_new a b at name true aloud (mid, told, same) = tells_one a b at fault.Unique (twice_text name) refl aloud (subst (λ fs. Told a.telling (faults_of a) fs at fault.Unique (twice_text name)) (sym same) told)
 told_new a b at name false aloud same = ap reports_of same
 

@@ -31,6 +31,7 @@ use Rattle.env_table.specs.declared.entries.What.TheVariants as what
 use Rattle.env_table.specs.declared.faults.FaultKind.TheVariants as fault
 use Rattle.typing_state.specs.declared.parts.Parts.{Parts}
 use Rattle.typing_state.specs.Goes.{Goes, OnlyFaults, OnlyIndex}
+use Rattle.typing_state.specs.Messages.{twice_text}
 use Rattle.typing_state.specs.Notes.{NotedNameless}
 use Rattle.operand_laws.specs.Operands.{number_of}
 use Rattle.typing_conditions.specs.Declared.{DeclaredAs, ExceptionAs}
@@ -180,8 +181,8 @@ module_specified a p b d s s1 s2 s3 n t (Some w) m params named asks names fault
     subst (λ i. ValuesRead p G s.env E (specifications_at i (values_of n t)) b m.value) goes.item (subst (λ es. GivesModule p b es n t m.value) names.env gives G E x (ap is_aloud goes.telling ∙ aloud) start.outside (constants_kept a p goes constants) (subst (λ U. AreNoted U p) (sym start.older) (noted_on at.older older goes)) V c
     (subst (λ i. AllMet E (sight p) G (λ z. items_ask z no_names (specifications_at i (values_of n t))) V c) (sym goes.item) inside) (subst (λ i. AreKnownValues c.chosen i (values_of n t)) (sym goes.item) known)) in
     let sig = structure_as read.adds V c (record { enters = enters_same read.only.nodes read.only.types inside.enters; holds = inside.holds; sure = inside.sure }) m.value read.is in
-    let told : IsTold (sight a) (sight p) (place_of x.name) fault.Unique (not (is_among x.name.name seen.modules)) =
-    subst (λ again. IsTold (sight a) (sight p) (place_of x.name) fault.Unique (not again)) (standing.modules x.name.name) (told_new a p w.now.span x.name.name (has_name s kind.Module x.name.name) aloud asks.0) in
+    let told : IsTold (sight a) (sight p) (place_of x.name) fault.Unique (twice_text x.name.name) (not (is_among x.name.name seen.modules)) =
+    subst (λ again. IsTold (sight a) (sight p) (place_of x.name) fault.Unique (twice_text x.name.name) (not again)) (standing.modules x.name.name) (told_new a p w.now.span x.name.name (has_name s kind.Module x.name.name) aloud asks.0) in
     let last = (let (v, is, noted) = adds.noted in names_between b d n (record { env = s1.env; ty = None; names = v }) noted refl rest) in
     let one : ItemAdded E (recorded_module N Y x.name ms) seen (record no_names { modules = x.name.name ∷ [] }) a d G (adds.entry ∷ s.env) =
     module_done a p read.begun b d at N Y x.name seen ms (name_asked at N seen.modules x.name only told) (record { types = only.types }) read.only read.outside read.adds last (constants_kept b d goes_on read.adds.done.constants) (noted_on read.adds.done.outside.older read.adds.done.noted goes_on) adds.entry m adds.is.what adds.is.name adds.is.kind sig in

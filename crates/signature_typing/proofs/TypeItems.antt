@@ -67,7 +67,7 @@ name_judged a b {B} n t old new seen aloud standing asked =
     by (is_among (str_bytes t.name) seen.types) (subst (λ v. ToldTwice a.telling (faults_of a) (faults_of b) t.span (told_again v (str_bytes t.name))) (standing.types (str_bytes t.name)) asked.0)
   where
     by : (v : Bool) → ToldTwice a.telling (faults_of a) (faults_of b) t.span (told_again v (str_bytes t.name)) → Judges B (λ c. ask n 0 (place_of t.span) (test (twice (str_bytes t.name)) (not v))) (sight a) (sight b) (site n 0) (not v)
-    by true (mid, told, same) = complaint_judges a b (twice_text (str_bytes t.name)) (twice (str_bytes t.name)) (site n 0) aloud (subst (λ fs. Told a.telling (faults_of a) fs t.span fault.Unique (twice_text (str_bytes t.name))) (sym same) told)
+    by true (mid, told, same) = complaint_judges a b (twice (str_bytes t.name)) (site n 0) aloud (subst (λ fs. Told a.telling (faults_of a) fs t.span fault.Unique (twice_text (str_bytes t.name))) (sym same) told)
     by false same = test_judges (twice (str_bytes t.name)) (site n 0) true (ap reports_of same)
 
 -- it stands then

@@ -4,7 +4,7 @@ use Rattle.std.specs.Prelude.{All}
 use Rattle.std.proofs.lemmas.List.Elements.{All-head, All-tail}
 use Rattle.tree_model.specs.Rows as rows
 use Rattle.tree_model.specs.Rows.{Row}
-use Rattle.tree_model.specs.Trees.{Tree, node, size_of}
+use Rattle.tree_model.specs.Trees.{Place, Tree, node, size_of}
 use Rattle.signature_model.specs.Entries.{Environment}
 use Rattle.typing_laws.proofs.Bools.{no_yes, and_cases}
 use Rattle.typing_model.specs.First.{IsFirst}
@@ -14,7 +14,7 @@ use Rattle.type_nodes.specs.Nodes.{IsPlain}
 use Rattle.typing_model.specs.Demands.{Site, Complaint, Demand, equal, test, agrees, matches, closes, Condition, same, instance, made, known, demand, treated}
 use Rattle.typing_model.specs.Demands as complaint
 use Rattle.fault_model.specs.Refused as fault
-use Rattle.fault_model.specs.Refused.{kind_of_complaint, kind_asked, Refused, refused_of, standing, AreOfLets, AreRefused}
+use Rattle.fault_model.specs.Refused.{kind_of_complaint, kind_asked, says_asked, says_by, Refused, refused_as, refused_of, standing, AreOfLets, AreRefused}
 use Rattle.env_table.specs.declared.entries.Entry.{Entry}
 use Rattle.env_table.specs.declared.faults.Fault.{Fault}
 use Rattle.env_table.specs.declared.faults.FaultKind.{FaultKind}
@@ -26,7 +26,7 @@ use Rattle.typing_state.specs.declared.parts.Parts.{Parts}
 use Rattle.typing_state.specs.Goes.{faults_of}
 use Rattle.typing_conditions.specs.Sights.{Report}
 use Rattle.typing_conditions.specs.Hiding.{ArePlaced}
-use Rattle.typing_conditions.specs.Judging.{kind_of, kind_of_demand, TellBy, TellAll}
+use Rattle.typing_conditions.specs.Judging.{kind_of, kind_of_demand, Says, IsOf, TellBy, TellAll}
 use Rattle.typing_steps.specs.States.{is_warning, report_of, reports_of, sight, is_noted, type_in}
 use Rattle.typing_steps.proofs.Schemes.{plain_nodes}
 use Rattle.typing_rows.specs.Noted.{AreNoted}
@@ -40,9 +40,9 @@ use Rattle.module_typing.specs.Items.{AllKeep}
 use Rattle.text_analysis.specs.Given.{operands_of, Given, Opens}
 use Rattle.text_analysis.proofs.Silent.{lets_are_carried}
 
--- a report by its place and kind alone
+-- a report by its place and kind, and its message where that is fixed
 abbrev refused_at : Report → Refused
-refused_at r = record { at = r.at; kind = api.kind_of r.kind }
+refused_at r = record { at = r.at; kind = api.kind_of r.kind; says = says_by (api.kind_of r.kind) r.message }
 
 complaint_kind : (c : Complaint) → api.kind_of (kind_of c) ≡ kind_of_complaint c
 complaint_kind (complaint.unbound w x) = refl
@@ -65,6 +65,35 @@ demand_kind (agrees c n s t) = complaint_kind c
 demand_kind (matches A t) = refl
 demand_kind (closes env s) = refl
 
+-- the message of a complaint is fixed
+complaint_says : (c : Complaint) (message : List ℕ) → says_by (kind_of_complaint c) message ≡ Some message
+complaint_says (complaint.unbound w x) message = refl
+complaint_says (complaint.arity x n m) message = refl
+complaint_says complaint.no_label message = refl
+complaint_says (complaint.not_mutable x) message = refl
+complaint_says (complaint.incomplete x) message = refl
+complaint_says (complaint.twice x) message = refl
+complaint_says (complaint.one_side x) message = refl
+complaint_says complaint.too_large message = refl
+complaint_says (complaint.cyclic x) message = refl
+complaint_says (complaint.differs x) message = refl
+complaint_says complaint.no_functor message = refl
+complaint_says (complaint.no_abstract_type x n) message = refl
+
+demand_says : (d : Demand) (message : List ℕ) → Says d message → says_by (kind_asked d) message ≡ says_asked d
+demand_says (equal t u) message is = refl
+demand_says (test c b) message is = complaint_says c message ∙ ap Some is
+demand_says (agrees c n s t) message is = complaint_says c message ∙ ap Some is
+demand_says (matches A t) message is = refl
+demand_says (closes env s) message is = refl
+
+-- a report of a demand is its fault
+report_refused : (at : Place) (d : Demand) (r : Report) → IsOf at d r → refused_at r ≡ refused_as at d
+report_refused at d r of =
+    let kind : api.kind_of r.kind ≡ kind_asked d = ap api.kind_of of.kind ∙ demand_kind d in
+    let says : says_by (api.kind_of r.kind) r.message ≡ says_asked d = ap (λ k. says_by k r.message) kind ∙ demand_says d r.message of.message in
+    λ i. record { at = of.place i; kind = kind i; says = says i }
+
 -- the reports of conditions are what isn't kept of them
 told_refused : (kept : Site → Bool) (cs : List Condition) (rs : List Report) → TellAll kept cs rs → map refused_at rs ≡ refused_of kept cs
 told_refused kept [] rs h = ap (map refused_at) h
@@ -74,14 +103,13 @@ told_refused kept (made n t ∷ cs) rs h = told_refused kept cs rs h
 told_refused kept (known t ∷ cs) rs h = told_refused kept cs rs h
 told_refused kept (demand s at d ∷ cs) rs h = by (λ us told. told_refused kept cs us told) (kept s) h
   where
-    by : ((us : List Report) → TellAll kept cs us → map refused_at us ≡ refused_of kept cs) → (k : Bool) → TellBy k at d (λ later. TellAll kept cs later) rs → map refused_at rs ≡ (if k then refused_of kept cs else record { at = at; kind = kind_asked d } ∷ refused_of kept cs)
+    by : ((us : List Report) → TellAll kept cs us → map refused_at us ≡ refused_of kept cs) → (k : Bool) → TellBy k at d (λ later. TellAll kept cs later) rs → map refused_at rs ≡ (if k then refused_of kept cs else refused_as at d ∷ refused_of kept cs)
     by others true h = others rs h
     by others false (r, later, is, of, rest) =
-        let here : refused_at r ≡ record { at = at; kind = kind_asked d } = (λ i. record { at = of.place i; kind = (ap api.kind_of of.kind ∙ demand_kind d) i }) in
-        ap (map refused_at) is ∙ (λ i. here i ∷ others later rest i)
+        ap (map refused_at) is ∙ (λ i. report_refused at d r of i ∷ others later rest i)
 told_refused kept (treated n env ∷ cs) rs h = told_refused kept cs rs h
 
--- what is told but for warnings are the reports, by place and kind alone
+-- what is told but for warnings are the reports, by place and kind, and by message where that is fixed
 warnings_alike : (k : FaultKind) → fault.is_warning (api.kind_of k) ≡ is_warning k
 warnings_alike kind.Bound = refl
 warnings_alike kind.Equal = refl
@@ -139,7 +167,7 @@ all_placed at = record {
     typed_low i p m None e h = absurd (let z : None ≡ Some m = h in cc)
     typed_low i p m (Some z) e h = at.index.low i p z e
 
--- So where items that are `let` and `;;` alone were typed from the state after the prelude, the faults are those of the demands that aren't kept, each at its place and of its kind.
+-- So where items that are `let` and `;;` alone were typed from the state after the prelude, the faults are those of the demands that aren't kept, each at its place, of its kind, and on names with its message.
 pub items_refused : {first : Parts} {env : List Entry} {items : List Tree} {last : Parts} {now : Scene} → Given first env items last now → Opens first env → IsPlain last.store.nodes → (names : Environment) → IsFirst names → AreOfLets items → AreRefused items (standing (map api.typer_fault_of (faults_of last)))
 items_refused {first} {env} {items} {last} {now} given o plain names is_first t =
     let at = o.starts names is_first in

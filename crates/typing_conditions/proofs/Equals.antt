@@ -157,8 +157,8 @@ equal_kept {F} {scope} {G} {found} {wanted} {m} {n} {a} {b} s at sound p q rest 
     complete V c e h = by V c e h.0 (c.kept s) refl
 
 -- the demand that two types are one isn't kept
-unfoldable pub equal_told : {F : Frame} {scope : Scope} {G : Letters} {found wanted : Choice → Typ} {m n : ℕ} {a b : Sight} (s : Site) (at : Place) → Means F a G found m → Means F a G wanted n →
-    OnlyReports a b → Tells a b at fault.Equal → NeverAlike a.nodes m n → Carried F scope (λ c. demand s at (equal (found c.chosen) (wanted c.chosen)) ∷ []) a G b G
+unfoldable pub equal_told : {F : Frame} {scope : Scope} {G : Letters} {found wanted : Choice → Typ} {m n : ℕ} {a b : Sight} {message : List ℕ} (s : Site) (at : Place) → Means F a G found m → Means F a G wanted n →
+    OnlyReports a b → Tells a b at fault.Equal message → NeverAlike a.nodes m n → Carried F scope (λ c. demand s at (equal (found c.chosen) (wanted c.chosen)) ∷ []) a G b G
 equal_told {F} {scope} {G} {found} {wanted} {m} {n} {a} {b} s at p q rest tells never = record {
   stays = reports_stay rest;
   hidden = [];
@@ -171,7 +171,7 @@ equal_told {F} {scope} {G} {found} {wanted} {m} {n} {a} {b} s at p q rest tells 
   sound = λ r V c l. record {
     same = ap (judged_as s) l.kept.0;
     holds = ((λ kept. absurd (not_both l.kept.0 kept)), tt);
-    tells = subst (λ t. TellBy t at (equal (found c.chosen) (wanted c.chosen)) (λ later. later ≡ []) (tells.report ∷ [])) (sym l.kept.0) (tells.report, [], refl, record { place = tells.place; kind = tells.is_kind }, refl);
+    tells = subst (λ t. TellBy t at (equal (found c.chosen) (wanted c.chosen)) (λ later. later ≡ []) (tells.report ∷ [])) (sym l.kept.0) (tells.report, [], refl, record { place = tells.place; kind = tells.is_kind; message = tt }, refl);
   };
   follows = λ r V c l. (refl, λ k. refl);
   complete = λ named. complete;

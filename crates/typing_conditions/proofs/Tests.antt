@@ -1,10 +1,11 @@
 -- Demands whose truth the types don't decide: tests of names, and that a body closes.
-use Rattle.std.proofs.Common.{◌≡◌, ◌≢◌, ◌∙◌, ◌⊎◌, inl, inr, Bool, true, false, List, [], ◌∷◌, refl, sym, ap, subst, append-nil}
+use Rattle.std.proofs.Common.{◌≡◌, ◌≢◌, ◌∙◌, ◌⊎◌, inl, inr, ℕ, Bool, true, false, List, [], ◌∷◌, refl, sym, ap, subst, append-nil}
 use Rattle.tree_model.specs.Trees.{Place}
 use Rattle.signature_model.specs.Entries.{Environment}
 use Rattle.signature_model.specs.Signatures.{Signature}
 use Rattle.typing_model.specs.Demands.{Site, test, closes, Complaint, demand, AllHold}
 use Rattle.typing_model.specs.Contexts.{Context}
+use Rattle.typing_model.specs.Messages.{complaint_text}
 use Rattle.type_nodes.specs.Readings.{Types}
 use Rattle.env_table.specs.declared.faults.FaultKind.{FaultKind}
 use Rattle.env_table.specs.declared.faults.FaultKind.TheVariants as fault
@@ -17,16 +18,17 @@ use Rattle.typing_conditions.proofs.First.{first_one}
 use Rattle.typing_conditions.proofs.Equals.{reports_stay, goes_as, judged_as, falls_short, not_both}
 use Rattle.typing_conditions.proofs.Hiding.{settles_none, none_doubtful}
 
--- what a test is in the contexts of a scope: whether it holds, where it is reported, and as which kind of fault
-pub record TestIs (scope : Scope) (complaint : Context → Complaint) (holds : Context → Bool) (at : Context → Place) (v : Bool) (place : Place) (kind : FaultKind) : Type 0 where
+-- what a test is in the contexts of a scope: whether it holds, where it is reported, as which kind of fault, and in which words
+pub record TestIs (scope : Scope) (complaint : Context → Complaint) (holds : Context → Bool) (at : Context → Place) (v : Bool) (place : Place) (kind : FaultKind) (message : List ℕ) : Type 0 where
   pub truth : (c : Context) → IsUnder scope c → holds c ≡ v
   pub here : (c : Context) → IsUnder scope c → at c ≡ place
   pub is_kind : (c : Context) → IsUnder scope c → kind_of (complaint c) ≡ kind
+  pub says : (c : Context) → IsUnder scope c → complaint_text (complaint c) ≡ message
 
 -- a test of names that holds or doesn't, whatever the types
-unfoldable pub test_judged : {F : Frame} {scope : Scope} {G : Letters} {complaint : Context → Complaint} {holds : Context → Bool} {at : Context → Place} {kind : FaultKind} {place : Place} {a b : Sight} (s : Site) (v : Bool) →
-    TestIs scope complaint holds at v place kind → OnlyReports a b → IsTold a b place kind v → Carried F scope (λ c. demand s (at c) (test (complaint c) (holds c)) ∷ []) a G b G
-test_judged {F} {scope} {G} {complaint} {holds} {at} {kind} {place} {a} {b} s true is rest tells = record {
+unfoldable pub test_judged : {F : Frame} {scope : Scope} {G : Letters} {complaint : Context → Complaint} {holds : Context → Bool} {at : Context → Place} {kind : FaultKind} {message : List ℕ} {place : Place} {a b : Sight} (s : Site) (v : Bool) →
+    TestIs scope complaint holds at v place kind message → OnlyReports a b → IsTold a b place kind message v → Carried F scope (λ c. demand s (at c) (test (complaint c) (holds c)) ∷ []) a G b G
+test_judged {F} {scope} {G} {complaint} {holds} {at} {kind} {message} {place} {a} {b} s true is rest tells = record {
   stays = reports_stay rest;
   hidden = [];
   settled = settles_none;
@@ -49,7 +51,7 @@ test_judged {F} {scope} {G} {complaint} {holds} {at} {kind} {place} {a} {b} s tr
         Continues F (λ c. demand s (at c) (test (complaint c) (holds c)) ∷ []) a b G [] (judged_as s true) V c ⊎ FallsShort (judged_as s (c.kept s)) (judged_as s true)
     by V c e true k = inl (record { same = ap (judged_as s) k; types = V; on = goes_as rest e; hidden_too = (tt, tt) })
     by V c e false k = inr (falls_short s k)
-test_judged {F} {scope} {G} {complaint} {holds} {at} {kind} {place} {a} {b} s false is rest tells = record {
+test_judged {F} {scope} {G} {complaint} {holds} {at} {kind} {message} {place} {a} {b} s false is rest tells = record {
   stays = reports_stay rest;
   hidden = [];
   settled = settles_none;
@@ -62,7 +64,7 @@ test_judged {F} {scope} {G} {complaint} {holds} {at} {kind} {place} {a} {b} s fa
     same = ap (judged_as s) l.kept.0;
     holds = ((λ kept. absurd (not_both l.kept.0 kept)), tt);
     tells = subst (λ t. TellBy t (at c) (test (complaint c) (holds c)) (λ later. later ≡ []) (tells.report ∷ [])) (sym l.kept.0)
-        (tells.report, [], refl, record { place = tells.place ∙ sym (is.here c l.under); kind = tells.is_kind ∙ sym (is.is_kind c l.under) }, refl);
+        (tells.report, [], refl, record { place = tells.place ∙ sym (is.here c l.under); kind = tells.is_kind ∙ sym (is.is_kind c l.under); message = tells.says ∙ sym (is.says c l.under) }, refl);
   };
   follows = λ r V c l. (refl, λ k. refl);
   complete = λ named V c e h. by V c e h.0 (c.kept s) refl;
@@ -85,9 +87,9 @@ same_or_not false true = inr (λ e. cc)
 same_or_not false false = inl refl
 
 -- The demand that a body closes asks nothing of the types: it is judged and reported, and no choice decides it.
-pub closing_judged : {F : Frame} {scope : Scope} {G : Letters} {env : Context → Environment} {body : Context → Signature} {a b : Sight} (s : Site) (at : Place) (v : Bool) → OnlyReports a b → IsTold a b at fault.Closing v →
+pub closing_judged : {F : Frame} {scope : Scope} {G : Letters} {env : Context → Environment} {body : Context → Signature} {a b : Sight} (s : Site) (at : Place) (message : List ℕ) (v : Bool) → OnlyReports a b → IsTold a b at fault.Closing message v →
     Carried F scope (λ c. demand s at (closes (env c) (body c)) ∷ []) a G b G
-closing_judged {F} {scope} {G} {env} {body} {a} {b} s at v rest tells = by v tells
+closing_judged {F} {scope} {G} {env} {body} {a} {b} s at message v rest tells = by v tells
   where
     complete : (v : Bool) (V : Types) (c : Context) → Enters F scope a G V c → AllHold c.kept (demand s at (closes (env c) (body c)) ∷ []) →
         Continues F (λ c. demand s at (closes (env c) (body c)) ∷ []) a b G [] (closing_as s v) V c ⊎ FallsShort (closing_as s (c.kept s)) (closing_as s v)
@@ -96,7 +98,7 @@ closing_judged {F} {scope} {G} {env} {body} {a} {b} s at v rest tells = by v tel
       | inr other ↦ inr (record { before = []; site = s; mine = c.kept s; theirs = v; closing = true; left = []; right = []; short = refl; full = refl; why = inr (refl, other) })
     ]
 
-    by : (v : Bool) → IsTold a b at fault.Closing v → Carried F scope (λ c. demand s at (closes (env c) (body c)) ∷ []) a G b G
+    by : (v : Bool) → IsTold a b at fault.Closing message v → Carried F scope (λ c. demand s at (closes (env c) (body c)) ∷ []) a G b G
     by true tells = record {
       stays = reports_stay rest;
       hidden = [];
@@ -123,7 +125,7 @@ closing_judged {F} {scope} {G} {env} {body} {a} {b} s at v rest tells = by v tel
       sound = λ r V c l. record {
         same = ap (closing_as s) l.kept.0;
         holds = ((λ kept. tt), tt);
-        tells = subst (λ t. TellBy t at (closes (env c) (body c)) (λ later. later ≡ []) (tells.report ∷ [])) (sym l.kept.0) (tells.report, [], refl, record { place = tells.place; kind = tells.is_kind }, refl);
+        tells = subst (λ t. TellBy t at (closes (env c) (body c)) (λ later. later ≡ []) (tells.report ∷ [])) (sym l.kept.0) (tells.report, [], refl, record { place = tells.place; kind = tells.is_kind; message = tt }, refl);
       };
       follows = λ r V c l. (refl, λ k. refl);
       complete = λ named. complete false;

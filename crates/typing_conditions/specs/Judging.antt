@@ -3,6 +3,7 @@ use Rattle.std.specs.Prelude.{◌≡◌, ◌≢◌, ◌⊎◌, ℕ, ◌+◌, Boo
 use Rattle.tree_model.specs.Trees.{Place}
 use Rattle.typing_model.specs.Demands.{Site, Demand, equal, test, agrees, matches, closes, Complaint, Condition, same, instance, made, known, demand, treated, AllHold}
 use Rattle.typing_model.specs.Demands as complaint
+use Rattle.typing_model.specs.Messages.{complaint_text}
 use Rattle.env_table.specs.declared.faults.FaultKind.{FaultKind}
 use Rattle.env_table.specs.declared.faults.FaultKind.TheVariants as fault
 use Rattle.typing_conditions.specs.Sights.{Report}
@@ -101,10 +102,19 @@ kind_of_demand (agrees c n s t) = kind_of c
 kind_of_demand (matches A t) = fault.Match
 kind_of_demand (closes env s) = fault.Closing
 
+-- a message is that of a demand, where the demand is on names or that declarations tell the same; the messages of the others name types, and stay open
+abbrev pub Says : Demand → List ℕ → Type 0
+Says (equal t u) message = Unit {0}
+Says (test c b) message = message ≡ complaint_text c
+Says (agrees c n s t) message = message ≡ complaint_text c
+Says (matches A t) message = Unit {0}
+Says (closes env s) message = Unit {0}
+
 -- a report is that of a demand at a place
 pub record IsOf (at : Place) (d : Demand) (r : Report) : Type 0 where
   pub place : r.at ≡ at
   pub kind : r.kind ≡ kind_of_demand d
+  pub message : Says d r.message
 
 -- a demand that is kept isn't reported, and one that isn't is reported first; `Rest` is for the reports after it
 abbrev pub TellBy : Bool → Place → Demand → (List Report → Type 0) → List Report → Type 0

@@ -1,5 +1,5 @@
 -- What single calls do to a state.
-use Rattle.std.specs.Prelude.{◌≡◌, ◌⊎◌, ℕ, ◌&&◌, ◌==◌, Bool, true, false, [], ◌∷◌, ◌++◌, Some, None, if◌then◌else◌}
+use Rattle.std.specs.Prelude.{◌≡◌, ◌⊎◌, ℕ, ◌&&◌, ◌==◌, Bool, true, false, List, [], ◌∷◌, ◌++◌, Some, None, if◌then◌else◌}
 use Rattle.tree_model.specs.Trees.{Place}
 use Rattle.signature_model.specs.Declarations.{Name}
 use Rattle.env_table.specs.declared.faults.FaultKind.{FaultKind}
@@ -16,12 +16,13 @@ pub record OnlyNodes (a b : Sight) : Type 0 where
   pub level : b.level ≡ a.level
   pub fixed : b.fixed ≡ a.fixed
 
--- a demand is reported once, with this kind at this place
-pub record Tells (a b : Sight) (at : Place) (kind : FaultKind) : Type 0 where
+-- a demand is reported once, with this kind and message at this place
+pub record Tells (a b : Sight) (at : Place) (kind : FaultKind) (message : List ℕ) : Type 0 where
   pub report : Report
   pub reports : b.reports ≡ a.reports ++ report ∷ []
   pub place : report.at ≡ at
   pub is_kind : report.kind ≡ kind
+  pub says : report.message ≡ message
 
 -- nodes, and what is recorded, are as before
 pub record OnlyReports (a b : Sight) : Type 0 where
@@ -50,9 +51,9 @@ pub record Records (a b : Sight) (p m : ℕ) : Type 0 where
   pub fixed : b.fixed ≡ a.fixed
 
 -- a demand that is kept isn't reported, and one that isn't is
-abbrev pub IsTold : Sight → Sight → Place → FaultKind → Bool → Type 0
-IsTold a b at kind true = b.reports ≡ a.reports
-IsTold a b at kind false = Tells a b at kind
+abbrev pub IsTold : Sight → Sight → Place → FaultKind → (message : List ℕ) → Bool → Type 0
+IsTold a b at kind message true = b.reports ≡ a.reports
+IsTold a b at kind message false = Tells a b at kind message
 
 -- a new type variable is written, for which a node stands; only the nodes change besides
 pub record Writes (a b : Sight) (x : Name) (m : ℕ) : Type 0 where

@@ -1,5 +1,6 @@
 -- Which typings a text has: its demands, its faults, the first environment, and texts that can be typed.
 pub mod Demands
+pub mod Messages
 pub mod Contexts
 pub mod Parts
 pub mod Names

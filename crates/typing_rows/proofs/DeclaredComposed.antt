@@ -18,6 +18,8 @@ use Rattle.env_table.specs.declared.entries.Entry.{Entry}
 use Rattle.env_table.specs.declared.faults.FaultKind.TheVariants as fault
 use Rattle.typing_state.specs.declared.parts.Parts.{Parts}
 use Rattle.typing_state.specs.declared.demands.Verdict.{Verdict}
+use Rattle.typing_state.specs.declared.messages.Word.TheVariants as word
+use Rattle.typing_state.specs.Messages.{unbound_text}
 use Rattle.typing_state.specs.Demands.{ArityIs}
 use Rattle.typing_state.specs.Goes.{faults_of, Told}
 use Rattle.typing_conditions.specs.Sights.{Sight}
@@ -59,11 +61,11 @@ variable_known a env names n t k found = λ aloud B around.
     (judged_then (test_judges {at = parts.place_of t} {b = sight a} (unbound type_variable_word t.name) (site n 0) true refl) (same_to n (type.Var k) (λ c. type.Var k) (λ c h. refl) refl))
 
 -- 'a, which is none
-pub variable_unbound : (a b d : Parts) (env : List Entry) (names : List Name) (n : ℕ) (t : Tok) (span : Span) (message : List ℕ) → place_of span ≡ parts.place_of t → index_from 0 t.name names ≡ None → Told a.telling (faults_of a) (faults_of b) span fault.Bound message →
+pub variable_unbound : (a b d : Parts) (env : List Entry) (names : List Name) (n : ℕ) (t : Tok) (span : Span) {x : Name} → place_of span ≡ parts.place_of t → index_from 0 t.name names ≡ None → x ≡ t.name → Told a.telling (faults_of a) (faults_of b) span fault.Bound (unbound_text word.TypeVariable x) →
     (sight d).reports ≡ (sight b).reports → SettlesTo a d env names (λ c. variable_asks c n t c.variables) n
-variable_unbound a b d env names n t span message place none told kept = λ aloud B around.
+variable_unbound a b d env names n t span place none named told kept = λ aloud B around.
     let x = unbound type_variable_word t.name in
-    let j = subst (λ p. Judges B (λ c. demand (site n 0) p (test x false) ∷ []) (sight a) (sight b) (site n 0) false) place (complaint_judges a b {B = B} message x (site n 0) aloud told) in
+    let j = subst (λ p. Judges B (λ c. demand (site n 0) p (test x false) ∷ []) (sight a) (sight b) (site n 0) false) place (complaint_judges a b {B = B} x (site n 0) aloud (subst (λ y. Told a.telling (faults_of a) (faults_of b) span fault.Bound (unbound_text word.TypeVariable y)) named told)) in
     to_here (λ c h. sym (ap (variable_asks c n t) (h.variables ∙ ap parameters around.1) ∙ ap (by_number c n t) none)) (judged_then j (unresolved_to names n around.1 kept))
 
 -- the first of some types

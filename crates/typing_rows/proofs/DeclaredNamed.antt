@@ -170,7 +170,7 @@ module _ (a b e : Parts) (env : List Entry) (names : List Name) (given : Option 
 
   pub looked_up : BoundIs (found_at env qs kind.TypeName t) given a b (lost_among env qs) t word.Type → SettledTo B (λ c. constructor_asks c n (path_to qs t) ns) (sight a) (sight e) n
   looked_up bound =
-      judged_then (bound_judges a b {B = B} given word.Type qs t kind.TypeName type_word (site n 0) around.0 aloud bound) (by_found (found_at env qs kind.TypeName t) refl bound)
+      judged_then (bound_judges a b {B = B} given word.Type qs t kind.TypeName type_word refl (site n 0) around.0 aloud bound) (by_found (found_at env qs kind.TypeName t) refl bound)
 
 -- A constructor of types whose name is there.
 pub name_settles : (a b e : Parts) (env : List Entry) (names : List Name) (given : Option Entry) (qs : List Tok) (t : Tok) (ns ms : List ℕ) (n : ℕ) → BoundIs (found_at env qs kind.TypeName t) given a b (lost_among env qs) t word.Type → SettlesNamed given b e names t ms →

@@ -15,6 +15,7 @@ use Rattle.typing_model.specs.Demands as complaint
 use Rattle.typing_model.specs.Contexts.{Context}
 use Rattle.typing_model.specs.Names as rules
 use Rattle.typing_model.specs.Names.{names_of, place_unbound, complaint_unbound}
+use Rattle.typing_model.specs.Messages.{word_text, complaint_text}
 use Rattle.env_table.specs.declared.entries.Constructor.{Constructor}
 use Rattle.env_table.specs.declared.entries.Entry.{Entry}
 use Rattle.env_table.specs.declared.entries.Kind.{Kind}
@@ -24,6 +25,7 @@ use Rattle.typing_state.specs.declared.demands.Verdict.{Verdict}
 use Rattle.typing_state.specs.declared.demands.Verdict.TheVariants.{Kept, Reported}
 use Rattle.typing_state.specs.declared.messages.Word.{Word as Called}
 use Rattle.typing_state.specs.declared.messages.Word.TheVariants as word
+use Rattle.typing_state.specs.Messages as messages
 use Rattle.typing_state.specs.Demands.{ArityIs}
 use Rattle.typing_state.specs.Goes.{faults_of, Told}
 use Rattle.typing_state.specs.Bound.{lost_among, found_at, BoundIs}
@@ -38,7 +40,7 @@ use Rattle.typing_steps.specs.States.{is_aloud, sight}
 use Rattle.typing_steps.specs.Demands.{is_kept, is_found_here, bound_asks}
 use Rattle.typing_steps.proofs.Seeing.{tells_one}
 use Rattle.typing_steps.proofs.Testing.{complains_really}
-use Rattle.typing_steps.proofs.Finding.{found_so, lost_so, tells_unbound}
+use Rattle.typing_steps.proofs.Finding.{found_so, lost_so, tells_unbound, tells_called}
 use Rattle.typing_rows.specs.Settled.{AreFixed, Before, IsBehind, Settled}
 use Rattle.typing_rows.specs.Around.{TypeAs, TypesAs}
 use Rattle.typing_rows.proofs.Settling.{first_single, settled_here}
@@ -71,13 +73,13 @@ test_held {B} {at} x s = record {
     complete c b h = by c (c.kept s) refl
 
 -- a test that doesn't hold, and is reported
-test_reported : {B : Before} {at : Place} (x : Complaint) (s : Site) (r : Report) → r.at ≡ at → r.kind ≡ judging.kind_of x → Settled B (λ c. demand s at (test x false) ∷ []) (judged_as s false) (r ∷ []) []
-test_reported {B} {at} x s r place kind = record {
+test_reported : {B : Before} {at : Place} (x : Complaint) (s : Site) (r : Report) → r.at ≡ at → r.kind ≡ judging.kind_of x → r.message ≡ complaint_text x → Settled B (λ c. demand s at (test x false) ∷ []) (judged_as s false) (r ∷ []) []
+test_reported {B} {at} x s r place kind message = record {
   counted = refl;
   sound = λ c b k f. record {
     same = ap (judged_as s) k.0;
     holds = ((λ kept. absurd (not_both k.0 kept)), tt);
-    tells = subst (λ t. TellBy t at (test x false) (λ later. later ≡ []) (r ∷ [])) (sym k.0) (r, [], refl, record { place = place; kind = kind }, refl);
+    tells = subst (λ t. TellBy t at (test x false) (λ later. later ≡ []) (r ∷ [])) (sym k.0) (r, [], refl, record { place = place; kind = kind; message = message }, refl);
   };
   follows = λ c b f. (refl, λ k. refl);
   complete = complete;
@@ -92,18 +94,18 @@ test_reported {B} {at} x s r place kind = record {
     complete c b h = by c h.0 (c.kept s) refl
 
 -- a test that leaves the reports where it holds, and is told where it doesn't
-pub test_judges : {B : Before} {at : Place} {a b : Sight} (x : Complaint) (s : Site) (v : Bool) → IsTold a b at (judging.kind_of x) v → Judges B (λ c. demand s at (test x v) ∷ []) a b s v
+pub test_judges : {B : Before} {at : Place} {a b : Sight} (x : Complaint) (s : Site) (v : Bool) → IsTold a b at (judging.kind_of x) (complaint_text x) v → Judges B (λ c. demand s at (test x v) ∷ []) a b s v
 test_judges {a = a} x s true tells = record { told = []; reports = tells ∙ sym (append-nil a.reports); settled = test_held x s }
-test_judges x s false tells = record { told = tells.report ∷ []; reports = tells.reports; settled = test_reported x s tells.report tells.place tells.is_kind }
+test_judges x s false tells = record { told = tells.report ∷ []; reports = tells.reports; settled = test_reported x s tells.report tells.place tells.is_kind tells.says }
 
 -- the conditions may be written in another way, where they are the same in each context that stands there
 pub judges_here : {B : Before} {asks others : Asks} {a b : Sight} {s : Site} {v : Bool} → ((c : Context) → IsBehind B c → asks c ≡ others c) → Judges B asks a b s v → Judges B others a b s v
 judges_here e p = record { told = p.told; reports = p.reports; settled = settled_here e p.settled }
 
 -- a call that reports a complaint, by its own clauses
-pub complaint_judges : (a b : Parts) {B : Before} {at : Span} (message : List ℕ) (x : Complaint) (s : Site) → is_aloud a.telling ≡ true → Told a.telling (faults_of a) (faults_of b) at (judging.kind_of x) message →
+pub complaint_judges : (a b : Parts) {B : Before} {at : Span} (x : Complaint) (s : Site) → is_aloud a.telling ≡ true → Told a.telling (faults_of a) (faults_of b) at (judging.kind_of x) (complaint_text x) →
     Judges B (λ c. demand s (place_of at) (test x false) ∷ []) (sight a) (sight b) s false
-complaint_judges a b {at = at} message x s aloud told = test_judges x s false (tells_one a b at (judging.kind_of x) message (complains_really x) aloud told)
+complaint_judges a b {at = at} x s aloud told = test_judges x s false (tells_one a b at (judging.kind_of x) (complaint_text x) (complains_really x) aloud told)
 
 -- `arity`: as many arguments are given as are taken, or that is reported
 pub arity_judges : (a b : Parts) {B : Before} {at : Span} {name : List ℕ} {taken given : ℕ} (s : Site) (v : Verdict) → is_aloud a.telling ≡ true → ArityIs v a b at name taken given →
@@ -117,17 +119,17 @@ arity_judges a b {B} {at} {name} {taken} {given} s Reported aloud (other, told) 
     (test_judges (complaint.arity name taken given) s false (tells_one a b at (judging.kind_of (complaint.arity name taken given)) _ refl aloud told))
 
 -- what comes of the demand that a path is bound, whatever the names stand for
-bound_so : (a b : Parts) {B : Before} (x : FoundAmong Entry) (given : Option Entry) (lost : Option Tok) (t : Tok) (called : Called) (w : Word) (s : Site) → is_aloud a.telling ≡ true → BoundIs x given a b lost t called →
+bound_so : (a b : Parts) {B : Before} (x : FoundAmong Entry) (given : Option Entry) (lost : Option Tok) (t : Tok) (called : Called) (w : Word) (s : Site) → messages.word_text called ≡ word_text w → is_aloud a.telling ≡ true → BoundIs x given a b lost t called →
     Judges B (λ c. demand s (place_unbound lost t) (test (complaint_unbound lost w t) (is_found_here x)) ∷ []) (sight a) (sight b) s (is_found_here x)
-bound_so a b (an_entry e) given lost t called w s aloud (_, same) = test_judges (complaint_unbound lost w t) s true (ap (λ p. (sight p).reports) same)
-bound_so a b a_hole given lost t called w s aloud (_, same) = test_judges (complaint_unbound lost w t) s true (ap (λ p. (sight p).reports) same)
-bound_so a b nothing given None t called w s aloud (_, lost) = test_judges (complaint_unbound None w t) s false (tells_unbound a b called t.name aloud lost.told)
-bound_so a b nothing given (Some q) t called w s aloud (_, lost) = test_judges (complaint_unbound (Some q) w t) s false (tells_unbound a b word.Module q.name aloud lost.told)
+bound_so a b (an_entry e) given lost t called w s one aloud (_, same) = test_judges (complaint_unbound lost w t) s true (ap (λ p. (sight p).reports) same)
+bound_so a b a_hole given lost t called w s one aloud (_, same) = test_judges (complaint_unbound lost w t) s true (ap (λ p. (sight p).reports) same)
+bound_so a b nothing given None t called w s one aloud (_, lost) = test_judges (complaint_unbound None w t) s false (tells_called a b called w t.name one aloud lost.told)
+bound_so a b nothing given (Some q) t called w s one aloud (_, lost) = test_judges (complaint_unbound (Some q) w t) s false (tells_unbound a b word.Module q.name aloud lost.told)
 
 -- `bound`: a path finds what the definitions find, a hole included; where it finds nothing, that is reported
-pub bound_judges : (a b : Parts) {B : Before} {env : List Entry} (given : Option Entry) (called : Called) (qs : List Tok) (t : Tok) (kind : Kind) (w : Word) (s : Site) → B.env ≡ env →
+pub bound_judges : (a b : Parts) {B : Before} {env : List Entry} (given : Option Entry) (called : Called) (qs : List Tok) (t : Tok) (kind : Kind) (w : Word) → messages.word_text called ≡ word_text w → (s : Site) → B.env ≡ env →
     is_aloud a.telling ≡ true → BoundIs (found_at env qs kind t) given a b (lost_among env qs) t called → Judges B (λ c. bound_asks c s (kind_of kind) w qs t) (sight a) (sight b) s (is_found_here (found_at env qs kind t))
-bound_judges a b {B} {env} given called qs t kind w s at aloud is = judges_here same (bound_so a b (found_at env qs kind t) given (lost_among env qs) t called w s aloud is)
+bound_judges a b {B} {env} given called qs t kind w one s at aloud is = judges_here same (bound_so a b (found_at env qs kind t) given (lost_among env qs) t called w s one aloud is)
   where
     same : (c : Context) → IsBehind B c → demand s (place_unbound (lost_among env qs) t) (test (complaint_unbound (lost_among env qs) w t) (is_found_here (found_at env qs kind t))) ∷ [] ≡ bound_asks c s (kind_of kind) w qs t
     same c behind =

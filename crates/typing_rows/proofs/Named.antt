@@ -128,7 +128,7 @@ after_lookup c n qs t ns = declared_type c n t ns (if is_kept c n 0 then then_by
 module _ (a b e : Parts) (env : List Entry) (given : Option Entry) (qs : List Tok) (t : Tok) (ns ms : List ℕ) (n m : ℕ) (bound : BoundIs (found_at env qs kind.TypeName t) given a b (lost_among env qs) t word.Type) (names_to : NamesTo given b e t ms m)
     {F : Frame} {scope : Scope} {G : Letters} (aloud : is_aloud a.telling ≡ true) (names : Surrounds as_declared F (sight a) G env scope) (all : AllMean F (sight a) G (types_at ns) ms) where
   judged : JudgedAs F scope (λ c. bound_asks c (site n 0) type_kind type_word qs t) (sight a) G (sight b) G (site n 0) (is_found_here (found_at env qs kind.TypeName t))
-  judged = bound_asked a b given word.Type qs t kind.TypeName type_word (site n 0) names aloud bound
+  judged = bound_asked a b given word.Type qs t kind.TypeName type_word refl (site n 0) names aloud bound
 
   kept_as : (c : Context) (v : Bool) → is_found_here (found_at env qs kind.TypeName t) ≡ v → AreKept c.kept judged.carried.judged → c.kept (site n 0) ≡ v
   kept_as c v f h = let k : AreKept c.kept (judged_at (site n 0) (is_found_here (found_at env qs kind.TypeName t)) false ∷ []) = subst (AreKept c.kept) judged.verdict h in k.0 ∙ f

@@ -19,6 +19,7 @@ use Rattle.typing_model.specs.Expressions.{expression_row, has_type, is_of, labe
 use Rattle.env_table.specs.declared.entries.Entry.{Entry}
 use Rattle.env_table.specs.declared.faults.FaultKind.TheVariants as fault
 use Rattle.typing_state.specs.declared.parts.Parts.{Parts}
+use Rattle.typing_state.specs.Messages.{not_mutable_text}
 use Rattle.typing_state.specs.Goes.{Goes}
 use Rattle.typing_conditions.specs.Sights.{own, number_in}
 use Rattle.typing_conditions.specs.Steps.{Records}
@@ -49,9 +50,9 @@ use Rattle.typing_rows.proofs.Terms.{one, as_row, field_term, ordered_term}
 use Rattle.typing_rows.proofs.Fielded.{found_ends}
 
 -- the demand that a label is mutable, kept or reported at the label
-pub asks_settable : (a b : Parts) (span : Span) (message : List ℕ) (qs : List Tok) (t : Tok) (mutable : Bool) → view.place_of span ≡ place_of t → TestedAs mutable a b span fault.Mutable message → AsksSettable a b (record { qualifiers = qs; last = Some t }) mutable
-asks_settable a b span message qs t mutable place tested = λ aloud F scope G n.
-    subst (λ p. Carried F scope (λ c. ask n 0 p (test (not_mutable t.name) mutable)) (sight a) G (sight b) G) place (test_asked a b {F = F} {scope = scope} {G = G} message (not_mutable t.name) (site n 0) mutable aloud tested).carried
+pub asks_settable : (a b : Parts) (span : Span) (qs : List Tok) (t : Tok) (mutable : Bool) → view.place_of span ≡ place_of t → TestedAs mutable a b span fault.Mutable (not_mutable_text t.name) → AsksSettable a b (record { qualifiers = qs; last = Some t }) mutable
+asks_settable a b span qs t mutable place tested = λ aloud F scope G n.
+    subst (λ p. Carried F scope (λ c. ask n 0 p (test (not_mutable t.name) mutable)) (sight a) G (sight b) G) place (test_asked a b {F = F} {scope = scope} {G = G} (not_mutable t.name) (site n 0) mutable aloud tested).carried
 
 -- where the label is missing, nothing is asked
 pub settable_none : (a : Parts) (qs : List Tok) (mutable : Bool) → AsksSettable a a (record { qualifiers = qs; last = None }) mutable

@@ -83,7 +83,7 @@ counts_asked a b {F} {scope} {G} taken given t s aloud (inl (e, same)) rest =
     (test_held (arity t.name taken given) s (only_reports a b rest) (ap reports_of same))
 counts_asked a b {F} {scope} {G} taken given t s aloud (inr (other, span, is, told)) rest =
     subst (λ v. JudgedAs F scope (λ c. demand s (parts.place_of t) (test (arity t.name taken given) v) ∷ []) (sight a) G (sight b) G s v) (sym (ne_eqb taken given other))
-    (test_reported (arity t.name taken given) s (only_reports a b rest) (subst (λ p. Tells (sight a) (sight b) p fault.Arity) is (tells_one a b span fault.Arity _ refl aloud told)))
+    (test_reported (arity t.name taken given) s (only_reports a b rest) (subst (λ p. Tells (sight a) (sight b) p fault.Arity (arity_text t.name taken given)) is (tells_one a b span fault.Arity _ refl aloud told)))
 
 -- an instance of a constructor's type is split into its sides exactly where it takes an argument
 abbrev pub SplitsInto : Bool → Parts → (n m : ℕ) → Option ℕ → Type 0
@@ -132,7 +132,7 @@ module _ (a b : Parts) {F : Frame} {scope : Scope} {G : Letters} {env : List Ent
   path = record { qualifiers = qs; last = Some t }
 
   judged : JudgedAs F scope (λ c. bound_asks c (site n 0) constructor_kind constructor_word qs t) (sight a) G (sight b) G (site n 0) (is_found_here (found_at env qs kind.Constructor t))
-  judged = bound_asked a b entry word.Constructor qs t kind.Constructor constructor_word (site n 0) names aloud bound
+  judged = bound_asked a b entry word.Constructor qs t kind.Constructor constructor_word refl (site n 0) names aloud bound
 
   kept_as : (c : Context) (v : Bool) → is_found_here (found_at env qs kind.Constructor t) ≡ v → AreKept c.kept judged.carried.judged → c.kept (site n 0) ≡ v
   kept_as c v e h = let k : AreKept c.kept (judged_at (site n 0) (is_found_here (found_at env qs kind.Constructor t)) false ∷ []) = subst (AreKept c.kept) judged.verdict h in k.0 ∙ e

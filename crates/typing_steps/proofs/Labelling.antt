@@ -72,7 +72,7 @@ module _ (a b : Parts) {F : Frame} {scope : Scope} {G : Letters} {env : List Ent
   path = record { qualifiers = qs; last = Some t }
 
   judged : JudgedAs F scope (λ c. bound_asks c (site n 0) label_kind label_word qs t) (sight a) G (sight b) G (site n 0) (is_found_here (found_at env qs kind.Label t))
-  judged = bound_asked a b entry word.Label qs t kind.Label label_word (site n 0) names aloud bound
+  judged = bound_asked a b entry word.Label qs t kind.Label label_word refl (site n 0) names aloud bound
 
   kept_as : (c : Context) (v : Bool) → is_found_here (found_at env qs kind.Label t) ≡ v → AreKept c.kept judged.carried.judged → c.kept (site n 0) ≡ v
   kept_as c v e h = let k : AreKept c.kept (judged_at (site n 0) (is_found_here (found_at env qs kind.Label t)) false ∷ []) = subst (AreKept c.kept) judged.verdict h in k.0 ∙ e

@@ -10,6 +10,7 @@ use Rattle.signature_model.specs.Lookups.{FoundAmong, an_entry, a_hole, nothing}
 use Rattle.typing_model.specs.Demands.{Site, Word, Condition}
 use Rattle.typing_model.specs.Contexts.{Context}
 use Rattle.typing_model.specs.Names.{names_of, referent_of, then_by, scheme_in}
+use Rattle.typing_model.specs.Messages.{word_text}
 use Rattle.type_terms.specs.declared.types.NodeRef.{NodeRef}
 use Rattle.type_nodes.specs.Nodes.{IsSound, IsNode}
 use Rattle.level_unify.specs.Instances.{Instantiated}
@@ -20,6 +21,7 @@ use Rattle.env_table.specs.declared.entries.Kind.TheVariants as kind
 use Rattle.env_table.specs.declared.entries.What.TheVariants as what
 use Rattle.typing_state.specs.declared.parts.Parts.{Parts}
 use Rattle.typing_state.specs.declared.messages.Word.{Word as Called}
+use Rattle.typing_state.specs.Messages as messages
 use Rattle.typing_state.specs.Goes.{OnlyStore}
 use Rattle.typing_state.specs.Types.{MakesVar, any_scope, level_for}
 use Rattle.typing_state.specs.Bound.{lost_among, found_at, BoundIs}
@@ -52,10 +54,10 @@ pub record LooksUp (D : Declared) (F : Frame) (scope : Scope) (G : Letters) (env
   pub aloud : is_aloud a.telling ≡ true
   pub bound : BoundIs (found_at env qs kind.Value t) given a b (lost_among env qs) t called
 
-module _ (a b d : Parts) {D : Declared} {F : Frame} {scope : Scope} {G : Letters} {env : List Entry} {given : Option Entry} {called : Called} {qs : List Tok} {t : Tok} (l : LooksUp D F scope G env a b given called qs t) (w : Word) (s : Site)
+module _ (a b d : Parts) {D : Declared} {F : Frame} {scope : Scope} {G : Letters} {env : List Entry} {given : Option Entry} {called : Called} {qs : List Tok} {t : Tok} (l : LooksUp D F scope G env a b given called qs t) (w : Word) (one : messages.word_text called ≡ word_text w) (s : Site)
     (key : Key) (free : (x : Typ) → IsKnownFor key x) where
   judged : JudgedAs F scope (λ c. bound_asks c s value_kind w qs t) (sight a) G (sight b) G s (is_found_here (found_at env qs kind.Value t))
-  judged = bound_asked a b given called qs t kind.Value w s l.names l.aloud l.bound
+  judged = bound_asked a b given called qs t kind.Value w one s l.names l.aloud l.bound
 
   kept_as : (c : Context) (v : Bool) → is_found_here (found_at env qs kind.Value t) ≡ v → AreKept c.kept judged.carried.judged → c.kept s ≡ v
   kept_as c v e h = let k : AreKept c.kept (judged_at s (is_found_here (found_at env qs kind.Value t)) false ∷ []) = subst (AreKept c.kept) judged.verdict h in k.0 ∙ e

@@ -70,12 +70,12 @@ nodes_of_both a b s same = only_nodes a b (record { index = s.index; faults = sa
 pub reports_of_both : (a b : Parts) → OnlyStoreAndFaults a b → b.store ≡ a.store → OnlyReports (sight a) (sight b)
 reports_of_both a b s same = only_reports a b (record { store = same; index = s.index; written = s.written; item = s.item; level = s.level; telling = s.telling; constants = s.constants })
 
--- where faults are reported, a fault of a kind that is no warning is one report
+-- where faults are reported, a fault of a kind that is no warning is one report, with its message
 pub tells_one : (a b : Parts) (at : Span) (kind : FaultKind) (message : List ℕ) → is_warning kind ≡ false → is_aloud a.telling ≡ true → Told a.telling (faults_of a) (faults_of b) at kind message →
-    Tells (sight a) (sight b) (place_of at) kind
+    Tells (sight a) (sight b) (place_of at) kind message
 tells_one a b at kind message real aloud told = by a.telling aloud told
   where
-    by : (t : Telling) → is_aloud t ≡ true → Told t (faults_of a) (faults_of b) at kind message → Tells (sight a) (sight b) (place_of at) kind
+    by : (t : Telling) → is_aloud t ≡ true → Told t (faults_of a) (faults_of b) at kind message → Tells (sight a) (sight b) (place_of at) kind message
     by Quiet e h = absurd (cc)
     by Aloud e (text, is, more) =
         let f : Fault = record { span = at; kind = kind; message = text } in
@@ -84,6 +84,7 @@ tells_one a b at kind message real aloud told = by a.telling aloud told
           reports = ap reports_of more ∙ reports_both (faults_of a) (f ∷ []) ∙ ap (λ (w : Bool). reports_of (faults_of a) ++ (if w then [] else report_of f ∷ [])) real;
           place = refl;
           is_kind = refl;
+          says = is;
         }
 
 level_as : (l m : ℕ) → l < m → m ≡ 2 ^ 32 - 1 → min l (2 ^ 32 - 2) ≡ l

@@ -9,6 +9,7 @@ use Rattle.syntax_tree.specs.View.{place_of}
 use Rattle.signature_model.specs.Declarations.{Name}
 use Rattle.typing_model.specs.Demands.{Site, test, Complaint, demand, AllHold}
 use Rattle.typing_model.specs.Demands as complaint
+use Rattle.typing_model.specs.Messages.{complaint_text}
 use Rattle.typing_model.specs.Contexts.{Context}
 use Rattle.typing_model.specs.Records.{is_among}
 use Rattle.type_nodes.specs.Readings.{Types}
@@ -80,8 +81,8 @@ pub judged_if : {F : Frame} {scope : Scope} {asks : Asks} {a b d : Sight} {G H K
 judged_if {s = s} {v = v} kept_so other p q = carried_if kept_so other s v p.carried p.verdict q
 
 -- a test that is one in every context
-always_is : {scope : Scope} (x : Complaint) (v : Bool) (place : Place) → TestIs scope (λ c. x) (λ c. v) (λ c. place) v place (kind_of x)
-always_is x v place = record { truth = λ c u. refl; here = λ c u. refl; is_kind = λ c u. refl }
+always_is : {scope : Scope} (x : Complaint) (v : Bool) (place : Place) → TestIs scope (λ c. x) (λ c. v) (λ c. place) v place (kind_of x) (complaint_text x)
+always_is x v place = record { truth = λ c u. refl; here = λ c u. refl; is_kind = λ c u. refl; says = λ c u. refl }
 
 -- a test that holds, where nothing is reported
 pub test_held : {F : Frame} {scope : Scope} {G : Letters} {place : Place} {a b : Sight} (x : Complaint) (s : Site) → OnlyReports a b → b.reports ≡ a.reports → JudgedAs F scope (λ c. demand s place (test x true) ∷ []) a G b G s true
@@ -89,7 +90,7 @@ unfolding test_judged
 test_held {scope = scope} {place = place} x s rest same = record { carried = test_judged s true (always_is {scope = scope} x true place) rest same; verdict = refl }
 
 -- a test that doesn't hold, and is reported
-pub test_reported : {F : Frame} {scope : Scope} {G : Letters} {place : Place} {a b : Sight} (x : Complaint) (s : Site) → OnlyReports a b → Tells a b place (kind_of x) → JudgedAs F scope (λ c. demand s place (test x false) ∷ []) a G b G s false
+pub test_reported : {F : Frame} {scope : Scope} {G : Letters} {place : Place} {a b : Sight} (x : Complaint) (s : Site) → OnlyReports a b → Tells a b place (kind_of x) (complaint_text x) → JudgedAs F scope (λ c. demand s place (test x false) ∷ []) a G b G s false
 unfolding test_judged
 test_reported {scope = scope} {place = place} x s rest tells = record { carried = test_judged s false (always_is {scope = scope} x false place) rest tells; verdict = refl }
 
@@ -108,22 +109,22 @@ complains_really (complaint.differs x) = refl
 complains_really complaint.no_functor = refl
 complains_really (complaint.no_abstract_type x n) = refl
 
--- A test that leaves all as it was where it holds, and is reported by one fault where it doesn't. It fits each call of the state that reports a complaint:
+-- A test that leaves all as it was where it holds, and is reported by one fault, with the message of its complaint, where it doesn't. It fits each call of the state that reports a complaint:
 -- `unbound`, `twice`, `one_side`, `incomplete`, `not_mutable`, `cyclic`, `differs_from`, `no_label` and `too_large`.
-pub test_asked : (a b : Parts) {F : Frame} {scope : Scope} {G : Letters} {at : Span} (message : List ℕ) (x : Complaint) (s : Site) (v : Bool) → is_aloud a.telling ≡ true → TestedAs v a b at (kind_of x) message →
+pub test_asked : (a b : Parts) {F : Frame} {scope : Scope} {G : Letters} {at : Span} (x : Complaint) (s : Site) (v : Bool) → is_aloud a.telling ≡ true → TestedAs v a b at (kind_of x) (complaint_text x) →
     JudgedAs F scope (λ c. demand s (place_of at) (test x v) ∷ []) (sight a) G (sight b) G s v
-test_asked a b message x s true aloud same = test_held x s (same_state a b same) (ap (λ p. (sight p).reports) same)
-test_asked a b {at = at} message x s false aloud (told, rest) = test_reported x s (only_reports a b rest) (tells_one a b at (kind_of x) message (complains_really x) aloud told)
+test_asked a b x s true aloud same = test_held x s (same_state a b same) (ap (λ p. (sight p).reports) same)
+test_asked a b {at = at} x s false aloud (told, rest) = test_reported x s (only_reports a b rest) (tells_one a b at (kind_of x) (complaint_text x) (complains_really x) aloud told)
 
 -- a call that reports a complaint, by its own clauses
-pub complaint_told : (a b : Parts) {F : Frame} {scope : Scope} {G : Letters} {at : Span} (message : List ℕ) (x : Complaint) (s : Site) → is_aloud a.telling ≡ true → Told a.telling (faults_of a) (faults_of b) at (kind_of x) message → OnlyFaults a b →
+pub complaint_told : (a b : Parts) {F : Frame} {scope : Scope} {G : Letters} {at : Span} (x : Complaint) (s : Site) → is_aloud a.telling ≡ true → Told a.telling (faults_of a) (faults_of b) at (kind_of x) (complaint_text x) → OnlyFaults a b →
     JudgedAs F scope (λ c. demand s (place_of at) (test x false) ∷ []) (sight a) G (sight b) G s false
-complaint_told a b message x s aloud told rest = test_asked a b message x s false aloud (told, rest)
+complaint_told a b x s aloud told rest = test_asked a b x s false aloud (told, rest)
 
 -- `is_new`, once its contract says that a name which is among those before is reported, and that all is as before otherwise
 pub new_asked : (a b : Parts) {F : Frame} {scope : Scope} {G : Letters} {at : Span} (x : Name) (seen : List Name) (s : Site) → is_aloud a.telling ≡ true → TestedAs (not (is_among x seen)) a b at fault.Unique (twice_text x) →
     JudgedAs F scope (λ c. demand s (place_of at) (test (complaint.twice x) (not (is_among x seen))) ∷ []) (sight a) G (sight b) G s (not (is_among x seen))
-new_asked a b x seen s aloud tested = test_asked a b (twice_text x) (complaint.twice x) s (not (is_among x seen)) aloud tested
+new_asked a b x seen s aloud tested = test_asked a b (complaint.twice x) s (not (is_among x seen)) aloud tested
 
 -- `arity`: as many arguments are given as are taken, or that is reported
 pub arity_asked : (a b : Parts) {F : Frame} {scope : Scope} {G : Letters} {at : Span} {name : List ℕ} {taken given : ℕ} (s : Site) (v : Verdict) → is_aloud a.telling ≡ true → ArityIs v a b at name taken given → OnlyFaults a b →

@@ -69,9 +69,9 @@ value_typed a b d {env} {m} given qs t n k bound uses rest aloud F scope G key f
     by (an_entry e) finds is =
         let root = value_has_root (λ r sc. IsIn at.roots r) (as_declared.declaration a.store.nodes at.roots at.names) (as_declared.exception a.store.nodes at.roots at.names) (names_of qs) t.name e finds at.covered.1 in
         let used : InstanceOf b d root.0 m = subst (λ w. UsesScheme (scheme_in w) b d m) root.1 (subst (λ o. UsesScheme (option_and_then scheme_in (option_map (λ (x : Entry). x.what) o)) b d m) is.0 uses) in
-        value_found a b d looks value_word (site n k) key free finds root.1 used.sound used.instance rest
-    by a_hole finds is = value_in_hole a b d looks value_word (site n k) key free finds (subst (λ o. UsesScheme (option_and_then scheme_in (option_map (λ (x : Entry). x.what) o)) b d m) is.0 uses) rest
-    by nothing finds is = value_lost a b d looks value_word (site n k) key free finds (subst (λ o. UsesScheme (option_and_then scheme_in (option_map (λ (x : Entry). x.what) o)) b d m) is.0 uses) rest
+        value_found a b d looks value_word refl (site n k) key free finds root.1 used.sound used.instance rest
+    by a_hole finds is = value_in_hole a b d looks value_word refl (site n k) key free finds (subst (λ o. UsesScheme (option_and_then scheme_in (option_map (λ (x : Entry). x.what) o)) b d m) is.0 uses) rest
+    by nothing finds is = value_lost a b d looks value_word refl (site n k) key free finds (subst (λ o. UsesScheme (option_and_then scheme_in (option_map (λ (x : Entry). x.what) o)) b d m) is.0 uses) rest
 
 -- what a constant asks first, and then that its node has the type of a node that all constants of its kind share
 fixed_row : {F : Frame} {scope : Scope} {first : Asks} {a b : Sight} {G : Letters} {t : Typ} {m : ℕ} (n : ℕ) → Carried F scope first a G b G → Means F b [] (λ ch. t) m → RowCarried F scope (λ c. first c ++ same (type_at c n) t ∷ []) a G b n m
@@ -214,7 +214,7 @@ module _ (a : Parts) (negated : Bool) (o : Option (Bor Token)) (t : Bor Token) (
   pub int_typed : (b : Parts) → t.now.kind ≡ code.Int → TestedAs (in_range negated (view.tok_of t.now).name) a b t.now.span fault.Range too_large_text → TypesConstant negated o a b b.constants.int.0
   unfolding constant_by kind_of
   int_typed b e tested = of_token b b.constants.int.0 (λ env n. subst (λ k. TypesRow a b env (constant_by negated (kind_of k) n (view.tok_of t.now)) n b.constants.int.0) (sym e) (λ aloud F scope G s.
-      let judged = test_asked a b {F = F} {scope = scope} {G = G} {at = t.now.span} too_large_text too_large (site n 0) (in_range negated (view.tok_of t.now).name) aloud tested in
+      let judged = test_asked a b {F = F} {scope = scope} {G = G} {at = t.now.span} too_large (site n 0) (in_range negated (view.tok_of t.now).name) aloud tested in
       fixed_row n judged.carried (fixed_on judged.carried.stays s.fixed).int))
 
   -- the empty list, as it is without its token

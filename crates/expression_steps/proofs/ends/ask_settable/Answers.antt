@@ -9,7 +9,7 @@ pub returns-then-is_mutable-clause-carries : goal.returns-then-is_mutable-clause
 returns-then-is_mutable-clause-carries c = settable_held c.args.at.now c.args.path.now c.in-Some.last c.args.is_mutable c.in-Some.is c.if-is_mutable.true
 
 pub returns-clause-carries : goal.returns-clause-carries
-returns-clause-carries c = settable_told c.not_mutable.result c.args.at.now c.not_mutable.new.self c.args.path.now c.in-Some.last c.args.is_mutable _ c.in-Some.is c.if-is_mutable.false c.not_mutable.ensures.told c.not_mutable.ensures.rest
+returns-clause-carries c = settable_told c.not_mutable.result c.args.at.now c.not_mutable.new.self c.args.path.now c.in-Some.last c.args.is_mutable c.as_str.ensures c.in-Some.is c.if-is_mutable.false c.not_mutable.ensures.told c.not_mutable.ensures.rest
 
 pub returns-clause-goes : goal.returns-clause-goes
 returns-clause-goes c = c.not_mutable.ensures.goes

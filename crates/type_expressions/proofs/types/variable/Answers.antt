@@ -55,7 +55,7 @@ returns-in_ok-unbound-in-None-clause-settles c =
     if_any c.unresolved-in-None.result _ (λ m names over.
     let are : names_of ps ≡ names = subst (λ v. IsOver v names) c.in-Parameters.is over in
     subst (λ o. SettlesVariable c.args.at.now c.unresolved-in-None.new.at names (option_map (λ t. tok_of t.now) o)) (sym c.in-Some.is)
-    (λ env n at. variable_unbound c.args.at.now c.unbound.new.self c.unresolved-in-None.new.at env names n t c.in-Some.name.now.span _ refl (subst (λ ns. index_from 0 t.name ns ≡ None) are (number_none t.name ps missing)) c.in_ok-unbound-in-None.ensures.told
+    (λ env n at. variable_unbound c.args.at.now c.unbound.new.self c.unresolved-in-None.new.at env names n t c.in-Some.name.now.span refl (subst (λ ns. index_from 0 t.name ns ≡ None) are (number_none t.name ps missing)) c.as_str-in-None.ensures c.in_ok-unbound-in-None.ensures.told
     (silent_reports c.unbound.new.self c.unresolved-in-None.new.at c.unresolved-in-None.ensures.silent)))
 
 pub returns-in_default-clause-means : goal.returns-in_default-clause-means
@@ -85,7 +85,7 @@ returns-in_ok-unbound-in-None-clause-means c =
     IfOk-weaker c.unresolved-in-None.result _ _ (λ m unknown names ps over nodes.
     let are : names_of qs ≡ names = subst (λ v. IsOver v names) c.in-Parameters.is over in
     subst (λ o. DenotesVariable c.args.at.now c.unresolved-in-None.new.at names ps (option_map (λ t. tok_of t.now) o) m.0) (sym c.in-Some.is)
-    (λ env n at. variable_unknown c.args.at.now c.unbound.new.self c.unresolved-in-None.new.at env names ps n t c.in-Some.name.now.span _ m.0 refl (subst (λ ns. index_from 0 t.name ns ≡ None) are (number_none t.name qs missing)) c.in_ok-unbound-in-None.ensures.told
+    (λ env n at. variable_unknown c.args.at.now c.unbound.new.self c.unresolved-in-None.new.at env names ps n t c.in-Some.name.now.span m.0 refl (subst (λ ns. index_from 0 t.name ns ≡ None) are (number_none t.name qs missing)) c.as_str-in-None.ensures c.in_ok-unbound-in-None.ensures.told
     c.unbound.ensures.rest (unknown names over))) c.unresolved-in-None.ensures.unknown
 
 pub returns-in_default-clause-untyped : goal.returns-in_default-clause-untyped
