@@ -2,7 +2,7 @@
 //! It keeps nothing itself, and knows nothing of how types are found: the typer is one `Analyser`, and a session takes any.
 //! It is built on the tables that an analysis fills: the nodes of types, environments, and the records of a tree's nodes.
 //! The layer above may use the fields of an `Analysis`, and an `Analyser`: `refresh` says which trees it holds, and that each item
-//! is counted as typed but for those at the front that are as they were, and no others; `found` that items which can be typed have no faults, and which faults items of `let` have.
+//! is counted as typed but for those at the front that are as they were, and no others; `found` that items which can be typed have no faults, and which faults and which types items of `let` have.
 #![tactic(auto)]
 
 ghost use Rattle.std.specs.Prelude.{◌≡◌, ℕ, List, [], ◌+◌, ◌-◌, ◌≤◌, length, map, true, IfOk, OnOk, OnErr};
@@ -15,6 +15,7 @@ ghost use Rattle.syntax_tree.specs.View.{trees_of};
 ghost use Rattle.analysis_api.specs.Typed.{more_typed, GoesOn, LongestFront, SameFront};
 ghost use Rattle.analysis_api.specs.Faults.{typer_fault_of};
 ghost use Rattle.analysis_api.specs.Warnings.{are_warnings};
+ghost use Rattle.analysis_api.specs.Types.{AreTyped};
 
 use env_table::{Env, Faults, Seen};
 use std::alloc::Global;
@@ -78,11 +79,13 @@ pub trait Analyser: Drop {
         ensures grows { Grows (C.tallies counts.old) (C.tallies counts.new) };
 
     /// What is found of the items that it holds, after a `refresh` that succeeded. Of items that can be typed, which are `let` and `;;` alone,
-    /// these are warnings and no faults; and of items that are `let` and `;;` the faults are those of the demands that aren't kept, in order.
+    /// these are warnings and no faults; and of items that are `let` and `;;` the faults are those of the demands that aren't kept, in order,
+    /// and what is recorded for expressions and patterns are the types of a principal typing.
     fn found(&self) -> Analysis<'_>
         ensures found { finds self.now result }
         ensures silent { AreTypable (items self.now) → are_warnings result.faults.now.list.items ≡ true }
-        ensures refused { AreOfLets (items self.now) → ∥ AreRefused (items self.now) (standing (map typer_fault_of result.faults.now.list.items)) ∥₁ };
+        ensures refused { AreOfLets (items self.now) → ∥ AreRefused (items self.now) (standing (map typer_fault_of result.faults.now.list.items)) ∥₁ }
+        ensures typed { AreOfLets (items self.now) → ∥ AreTyped (items self.now) result ∥₁ };
 
     /// The text of the prelude, whose names every text has at hand; its lines are counted from 1.
     fn prelude() -> &'static str

@@ -6,6 +6,7 @@ use Rattle.type_nodes.specs.Readings.{Types}
 use Rattle.level_unify.proofs.Unified.{fits_loosely}
 use Rattle.typing_conditions.specs.Sights.{Sight, Letters}
 use Rattle.typing_conditions.specs.Frames.{Frame}
+use Rattle.typing_conditions.specs.Seeing.{IsSeen}
 use Rattle.typing_conditions.specs.Judging.{Judgement, judgements, Follows, FallsShort, Meets}
 use Rattle.typing_conditions.specs.Carrying.{Asks, Scope, HoldsWritten, Enters, ReadsOff, Carried}
 use Rattle.typing_conditions.proofs.Carried.{Decides}
@@ -23,7 +24,7 @@ carried_alike {F} {scope} {asks} {others} {a} {b} {G} {H} same p = record {
   told = p.told;
   reports = p.reports;
   counted = p.counted;
-  sound = λ r V c l. subst (λ cs. Meets c.kept cs p.judged p.told) (read p.judged V c l) (p.sound r V c l);
+  sound = λ r V c l. subst (λ cs. Meets (IsSeen l.scopes l.types V) c.kept cs p.judged p.told) (read p.judged V c l) (p.sound r V c l);
   follows = λ r V c l. subst (λ cs. Follows c.kept cs p.judged) (read [] V c l) (p.follows r V c l);
   complete = λ named V c e h. elim (p.complete named V c e (subst (AllHold c.kept) (sym (entered named V c e)) h)) [
     | inl goes ↦ inl (record { same = ap (judgements c.kept) (sym (entered named V c e)) ∙ goes.same; types = goes.types; on = goes.on; hidden_too = goes.hidden_too })

@@ -65,4 +65,4 @@ case_there a b d env o nd matched bodies now there noted rest goes typed carried
     let here : IsCaseNode o.number t = subst IsCase (sym same) carried in
     let (m, is, parts) = subst (λ i. TypesCasePartsTo b d env (case_over i o.number t) matched bodies now) goes.item (typed here) in
     subst (λ x. TypesCaseIf a d env (case_of a.item x) matched bodies now) same
-    (subst (λ x. TypesCaseIf a d env x matched bodies now) (sym (case_term a.item o.number (place_of o.span) t here.formed here.row)) (m, is, case_typed a b d env o.number (case_over a.item o.number t) matched bodies m noted rest goes parts))
+    (subst (λ x. TypesCaseIf a d env x matched bodies now) (sym (case_term a.item o.number (place_of o.span) t here.formed here.row)) (m, is, case_typed a b d env o.number (case_over a.item o.number t) matched bodies m refl noted rest goes parts))

@@ -11,14 +11,14 @@ use Rattle.env_table.specs.declared.entries.Entry.{Entry}
 use Rattle.typing_state.specs.declared.parts.Parts.{Parts}
 use Rattle.typing_state.specs.Goes.{Goes, OnlyIndex}
 use Rattle.typing_state.specs.Notes.{NotedNameless}
-use Rattle.typing_conditions.specs.Sights.{Sight, Letters}
+use Rattle.typing_conditions.specs.Sights.{Sight, number_in, Letters}
 use Rattle.typing_conditions.specs.Frames.{Frame}
 use Rattle.typing_conditions.specs.Carrying.{Scope, Stays, Carried, CarriedTo}
 use Rattle.typing_conditions.specs.Surroundings.{Surrounds}
 use Rattle.typing_conditions.proofs.Carried.{carried_refl, carried_trans, carried_as, done_then, done_as, done_last}
 use Rattle.typing_conditions.proofs.Meaning.{means_on, means_more}
 use Rattle.typing_conditions.proofs.Stays.{stays_trans}
-use Rattle.typing_conditions.proofs.Surrounding.{surrounds_on}
+use Rattle.typing_conditions.proofs.Surrounding.{surrounds_on, surrounds_sees}
 use Rattle.typing_steps.specs.States.{is_aloud, sight}
 use Rattle.typing_steps.specs.Typing.{as_declared, TypesTo, AsksEqual}
 use Rattle.typing_steps.proofs.Still.{none_idle, carried_idle, untyped_noted, plain_noted}
@@ -96,10 +96,10 @@ case_as c n k subject None x = refl
 case_as c n k subject (Some t) x = refl
 
 -- A case: its own node is noted, and then it is typed by its parts.
-pub case_typed : (a b d : Parts) (env : List Entry) (number : ℕ) (x : Case) (matched : ℕ) (bodies : Option ℕ) (m : ℕ) → NotedNameless a b number env None → OnlyIndex a b → Goes a b → TypesCaseParts b d env x.pattern x.guard x.body matched bodies m →
+pub case_typed : (a b d : Parts) (env : List Entry) (number : ℕ) (x : Case) (matched : ℕ) (bodies : Option ℕ) (m : ℕ) → number_in a.item number ≡ x.node → NotedNameless a b number env None → OnlyIndex a b → Goes a b → TypesCaseParts b d env x.pattern x.guard x.body matched bodies m →
     TypesCase a d env x matched bodies m
-case_typed a b d env number x matched bodies m noted rest goes typed = λ aloud F scope G n k subject result s of_subject has.
-    let y = plain_noted a b {F = F} {scope = scope} {G = G} number env x.node (λ c. c.env) noted rest in
+case_typed a b d env number x matched bodies m place noted rest goes typed = λ aloud F scope G n k subject result s of_subject has.
+    let y = plain_noted a b {F = F} {scope = scope} {G = G} number env x.node place aloud noted rest (surrounds_sees s) in
     let z = typed (ap is_aloud goes.telling ∙ aloud) F scope G n k subject result (surrounds_on y.stays s) (means_on y.stays of_subject) (means_if_on result bodies y.stays has) in
     record { own = z.own; carried = carried_as (λ c. case_as c n k (subject c.chosen) (type_by c.chosen result) x) (carried_trans y z.carried); done = done_as _ (carried_trans y z.carried) (done_last y z.carried z.done); means = z.means }
 

@@ -81,6 +81,7 @@ closed_out {F} {a} {d} {limits} {names} close level x J roots held low only_limi
   lowered = level ∙ ap suc (sym ((only close).level ∙ limited_level close F.level level));
   types = (only close).types;
   noted = (only close).noted;
+  scopes = (only close).scopes;
   written = (only close).written;
   reports = (only close).reports;
   aloud = (only close).aloud;

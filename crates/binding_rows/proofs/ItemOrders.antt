@@ -1,5 +1,5 @@
 -- What is carried of items, one after the other.
-use Rattle.std.proofs.Common.{◌<◌, ◌≡◌, ◌∙◌, ◌⊎◌, inl, inr, ℕ, zero, suc, ◌+◌, ◌≤◌, true, List, [], ◌∷◌, ◌++◌, take, length, refl, sym, ap, subst, arith, append-nil, false}
+use Rattle.std.proofs.Common.{◌<◌, ◌≡◌, ◌∙◌, ◌⊎◌, inl, inr, ℕ, zero, suc, ◌+◌, ◌≤◌, true, List, [], ◌∷◌, ◌++◌, take, length, refl, sym, ap, subst, arith, append-nil, false, Some}
 use Rattle.std.proofs.lemmas.List.{take-append-le}
 use Rattle.std.proofs.Math.Seq.{take-append-add}
 use Rattle.type_model.specs.Types.{Typ as type}
@@ -16,14 +16,17 @@ use Rattle.env_table.specs.declared.entries.Entry.{Entry}
 use Rattle.typing_conditions.specs.Locals.{IsOwn, Refines, IsContext}
 use Rattle.typing_conditions.specs.Assumptions.{SchemeFits, SchemeReads}
 use Rattle.typing_conditions.specs.Environments.{no_names as no_entries}
-use Rattle.typing_conditions.specs.Standing.{Covers, Stands}
+use Rattle.typing_conditions.specs.Declared.{DeclaredAs, ExceptionAs}
+use Rattle.typing_conditions.specs.Standing.{IsIn, Covers, Stands}
 use Rattle.typing_conditions.proofs.Own.{own_of}
+use Rattle.typing_conditions.proofs.Environments.{env_map}
 use Rattle.typing_conditions.proofs.Steps.{refines_none, refines_then}
-use Rattle.typing_conditions.specs.Sights.{Sight, Letters, AreGiven, AreNodes, SameAt}
-use Rattle.typing_conditions.specs.Judging.{Judgement, Meets, AreKept, Follows, judgements, StartsWith, FallsShort}
+use Rattle.typing_conditions.specs.Sights.{number_in, Scopes, Recorded, Sight, Letters, AreGiven, AreNodes, SameAt}
+use Rattle.typing_conditions.specs.Seeing.{StandsFor, IsSeen}
+use Rattle.typing_conditions.specs.Judging.{Judgement, Meets, starts_known, AllSeen, AnySeen, AreKept, Follows, judgements, StartsWith, FallsShort}
 use Rattle.typing_conditions.specs.Carrying.{Asks, AreHidden}
 use Rattle.typing_conditions.specs.Surroundings.{Declared, IsSteady, KnowsNames}
-use Rattle.typing_conditions.proofs.Judged.{hold_both, hold_left, hold_right, judged_both, counted_both, kept_left, kept_right, tell_both, follows_both, short_left, short_right, starts_all, starts_left, starts_right, short_of_more, judged_kept}
+use Rattle.typing_conditions.proofs.Judged.{starts_both, hold_both, hold_left, hold_right, judged_both, counted_both, kept_left, kept_right, tell_both, follows_both, short_left, short_right, starts_all, starts_left, starts_right, short_of_more, judged_kept, any_seen, seen_both}
 use Rattle.typing_conditions.proofs.Carried.{Decides, hidden_both, take_none, less_or_more}
 use Rattle.typing_conditions.proofs.First.{starts_none}
 use Rattle.typing_conditions.proofs.Surrounding.{vars_apart}
@@ -34,8 +37,8 @@ use Rattle.typing_steps.specs.States.{sight}
 use Rattle.typing_steps.specs.Constants.{HasConstants}
 use Rattle.typing_rows.specs.Noted.{AreNoted}
 use Rattle.binding_rows.specs.ItemRows.{AreOwned, none_owned, leaves_none, leaves_types, leaves_one, ItemDone, ItemsDone, recorded_idle}
-use Rattle.binding_rows.specs.Outside.{AgreesOutside, AreMet, InEachMet, Outside, Left, letters_left, AreLeft, EntersItems, ReadsItems, ContinuesItems, StaysOutside, OnlyBetween, ItemsCarried}
-use Rattle.typing_conditions.specs.Hiding.{HasCopy, NoneDoubtful, Settles}
+use Rattle.binding_rows.specs.Outside.{Lasts, AgreesOutside, AreMet, InEachMet, Outside, Left, letters_left, AreLeft, EntersItems, ReadsItems, ContinuesItems, StaysOutside, OnlyBetween, ItemsCarried, SeesItems}
+use Rattle.typing_conditions.specs.Hiding.{Keeps, HasCopy, NoneDoubtful, Settles}
 use Rattle.typing_conditions.proofs.Hiding.{none_doubtful, none_both, placed_before, copy_itself, copy_of, copy_first, copy_second, keeps_same, keeps_as, keeps_both, settles_none, settles_both, settles_as}
 
 -- what agrees with a state agreed before
@@ -113,7 +116,7 @@ items_trans {E} {E'} {asks} {rest} {further} {a} {b} {c} {G} {H} {K} after p nex
         kept = kept_left x.kept p.judged q.judged l.kept;
       }) in
       let comes = next V x l.env (q.stays.loose V (fits_loosely c.nodes V l.reads.fits)) (agrees_earlier q.stays l.agrees) (record { kept = kept_left x.kept p.judged q.judged l.kept; holds = one.holds }) in
-      let two = subst (λ cs. Meets x.kept cs q.judged q.told) (sym comes.asks) (q.sound V (into x) (record {
+      let two = subst (λ cs. Meets AnySeen x.kept cs q.judged q.told) (sym comes.asks) (q.sound V (into x) (record {
         env = comes.env;
         reads = l.reads;
         agrees = l.agrees;
@@ -124,6 +127,8 @@ items_trans {E} {E'} {asks} {rest} {further} {a} {b} {c} {G} {H} {K} after p nex
         same = judged_both x.kept (asks x) (rest x) ∙ ap (λ js. js ++ judgements x.kept (rest x)) one.same ∙ ap (λ js. p.judged ++ js) two.same;
         holds = hold_both x.kept (asks x) (rest x) one.holds two.holds;
         tells = tell_both x.kept (asks x) (rest x) p.told q.told one.tells two.tells;
+        sees = any_seen (asks x ++ rest x);
+        starts = starts_both (asks x) (rest x) one.starts two.starts;
       };
   follows = λ V x l. follows_both x.kept (asks x) (rest x) p.judged q.judged (p.follows V x (earlier V x l tt)) (λ kept.
       let one = p.sound V x (earlier V x l kept) in
@@ -214,7 +219,7 @@ stays_between {a} {b} {G} only = record {
   refines = λ M own. subst (λ ns. Refines ns b.nodes M) only.nodes (refines_none b.nodes M own);
   bounds = λ v h. subst (λ ns. is_bound ns v ≡ true) (sym only.nodes) h;
   recorded = λ i k m e. only.types i k ∙ e;
-  keeps = keeps_as only.noted only.types;
+  keeps = keeps_as only.noted only.scopes only.types;
   given = λ V ch h. h;
   inside = λ i. record { recorded = λ j k m e. subst (λ ns. IsNode ns m) (sym only.nodes) (i.recorded j k m (sym (only.types j k) ∙ e)); given = subst (AreNodes G) (sym only.nodes) i.given };
   aloud = only.aloud;
@@ -233,7 +238,7 @@ items_between {E} {a} {b} {G} only = record {
   told = [];
   reports = only.reports ∙ sym (append-nil a.reports);
   counted = refl;
-  sound = λ V c l. record { same = refl; holds = tt; tells = refl };
+  sound = λ V c l. record { same = refl; holds = tt; tells = refl; sees = tt; starts = refl };
   follows = λ V c l. refl;
   complete = λ V c e h. inl (record {
     same = refl;
@@ -291,7 +296,7 @@ items_then {E} {asks} {a} {b} {c} {G} {H} only p = record {
     }
 
 -- the conditions may be written in another way
-items_as : {E : Choice → Environment} {asks others : Asks} {a b : Sight} {G H : Letters} → ((x : Context) → asks x ≡ others x) → ItemsCarried E asks a G b H → ItemsCarried E others a G b H
+pub items_as : {E : Choice → Environment} {asks others : Asks} {a b : Sight} {G H : Letters} → ((x : Context) → asks x ≡ others x) → ItemsCarried E asks a G b H → ItemsCarried E others a G b H
 items_as {E} {asks} {others} {a} {b} {G} {H} same p = record {
   stays = p.stays;
   left = p.left;
@@ -301,7 +306,7 @@ items_as {E} {asks} {others} {a} {b} {G} {H} same p = record {
   told = p.told;
   reports = p.reports;
   counted = p.counted;
-  sound = λ V x l. subst (λ cs. Meets x.kept cs p.judged p.told) (same x) (p.sound V x l);
+  sound = λ V x l. subst (λ cs. Meets AnySeen x.kept cs p.judged p.told) (same x) (p.sound V x l);
   follows = λ V x l. subst (λ cs. Follows x.kept cs p.judged) (same x) (p.follows V x l);
   complete = λ V x e h. elim (p.complete V x e (subst (AllHold x.kept) (sym (same x)) h)) [
     | inl goes ↦ inl (record { same = ap (judgements x.kept) (sym (same x)) ∙ goes.same; types = goes.types; fits = goes.fits; before = goes.before; agrees = goes.agrees; left_too = goes.left_too })
@@ -309,6 +314,38 @@ items_as {E} {asks} {others} {a} {b} {G} {H} same p = record {
   ];
   first = λ k V x e h. subst (λ cs. Decides x p.judged (take k cs)) (same x) (p.first k V x e (subst (λ cs. AllHold x.kept (take k cs)) (sym (same x)) h));
 }
+
+-- What is seen of items is seen of them however their conditions are written.
+pub sees_as : {E : Choice → Environment} {asks others : Asks} {a b : Sight} {G H : Letters} (same : (x : Context) → asks x ≡ others x) (p : ItemsCarried E asks a G b H) → SeesItems E asks b H p.left p.judged → SeesItems E others b H (items_as same p).left (items_as same p).judged
+unfolding items_as
+sees_as same p sees V x l scopes types inside = subst (AllSeen (IsSeen scopes types V)) (same x) (sees V x l scopes types inside)
+
+-- what was recorded before is recorded in the end
+pub lasts_before : {a b : Sight} {scopes : Scopes} {types : Recorded} → Keeps a b → Lasts b scopes types → Lasts a scopes types
+lasts_before keeps inside = record { names = λ i k env h. inside.names i k env (keeps.scopes i k env h); nodes = λ i k m h. inside.nodes i k m (keeps.recorded i k m h) }
+
+-- And what is seen of items and of those after them is seen of all.
+pub sees_trans : {E E' : Choice → Environment} {asks rest further : Asks} {a b c : Sight} {G H K : Letters} (after : Context → Environment) (p : ItemsCarried E asks a G b H) (next : InEachMet E asks b H p.judged (IsNext E' rest further after)) (sound : IsSound a.nodes) (q : ItemsCarried E' further b H c K) →
+    SeesItems E asks b H p.left p.judged → SeesItems E' further c K q.left q.judged → SeesItems E (λ x. asks x ++ rest x) c K (items_trans after p next sound q).left (items_trans after p next sound q).judged
+unfolding items_trans
+sees_trans {E} {E'} {asks} {rest} {further} {a} {b} {c} {G} {H} {K} after p next sound q first second V x l scopes types inside =
+    let earlier : ReadsItems E b H p.left p.judged V x = record {
+      env = l.env;
+      reads = q.stays.reads V l.reads;
+      agrees = agrees_earlier q.stays l.agrees;
+      left_too = left_earlier b.nodes c.nodes p.left V x.chosen q.stays.bounds (left_first c.nodes p.left q.left V x.chosen l.left_too);
+      kept = kept_left x.kept p.judged q.judged l.kept;
+    } in
+    let comes = next V x l.env (q.stays.loose V (fits_loosely c.nodes V l.reads.fits)) (agrees_earlier q.stays l.agrees) (record { kept = earlier.kept; holds = (p.sound V x earlier).holds }) in
+    let here : ReadsItems E' c K q.left q.judged V (under (after x) x) = record {
+      env = comes.env;
+      reads = l.reads;
+      agrees = l.agrees;
+      left_too = left_second c.nodes p.left q.left V x.chosen l.left_too;
+      kept = kept_right x.kept p.judged q.judged l.kept;
+    } in
+    let starts = ap starts_known comes.asks ∙ (q.sound V (under (after x) x) here).starts in
+    seen_both (IsSeen scopes types V) (asks x) (rest x) starts (first V x earlier scopes types (lasts_before q.stays.keeps inside)) (subst (AllSeen (IsSeen scopes types V)) (sym comes.asks) (second V (under (after x) x) here scopes types inside))
 
 -- What an item asks before the items inside it, and what these ask: it is carried, and where it is met, so is what the items inside ask.
 pub record Inside (E : Choice → Environment) (asks inner : Asks) (a d : Sight) (G H : Letters) (judged : List Judgement) : Type 0 where
@@ -384,7 +421,7 @@ items_treated {E} {asks} {a} {b} {G} {H} n p = record {
   told = p.told;
   reports = p.reports;
   counted = p.counted;
-  sound = λ V c l. let h = p.sound V c l in record { same = h.same; holds = (tt, h.holds); tells = h.tells };
+  sound = λ V c l. let h = p.sound V c l in record { same = h.same; holds = (tt, h.holds); tells = h.tells; sees = (tt, h.sees); starts = refl };
   follows = p.follows;
   complete = λ V c e h. elim (p.complete V c e h.1) [ inl goes ↦ inl (record { same = goes.same; types = goes.types; fits = goes.fits; before = goes.before; agrees = goes.agrees; left_too = goes.left_too }) | inr short ↦ inr short ];
   first = first;
@@ -404,9 +441,39 @@ pub treated_clear : {E : Choice → Environment} {asks : Asks} {a b : Sight} {G 
 unfolding items_treated
 treated_clear n p h = h
 
+-- The names of a state between items stand for those of the environment at each reading.
+pub outside_sees : {D : Declared} {a : Sight} {G : Letters} {env : List Entry} {E : Choice → Environment} → Outside D a G env E → (V : Types) (ch : Choice) → IsReading a.nodes V → AgreesOutside a G V ch → StandsFor V env (E ch)
+outside_sees {D} {a} {G} {env} {E} at V ch reads agrees =
+    let (J, own) = own_of a.nodes at.sound in
+    record {
+      nodes = a.nodes;
+      reads = reads;
+      roots = at.roots;
+      names = at.names;
+      are = env_map (λ r sc. SchemeReads a.nodes V r sc × IsIn at.roots r) (λ r sc. SchemeReads a.nodes V r sc × IsIn at.roots r) (D.declaration a.nodes at.roots at.names) (DeclaredAs a.nodes at.roots at.names) (D.exception a.nodes at.roots at.names) (ExceptionAs a.nodes at.roots at.names)
+          (λ r sc h. h) (λ d e h. at.steady.declared h) (λ x o h. at.steady.excepted h) (at.reads J V ch own reads agrees).names;
+    }
+
+-- So where these names are recorded for an item's node, they are seen at it.
+pub treated_sees : {D : Declared} {E : Choice → Environment} {asks : Asks} {a b : Sight} {G H : Letters} {env : List Entry} (n i k : ℕ) → n ≡ number_in i k → b.scopes i k ≡ Some env → Outside D a G env E → (p : ItemsCarried E asks a G b H) → SeesItems E asks b H p.left p.judged →
+    SeesItems E (λ c. treated n c.env ∷ [] ++ asks c) b H (items_treated n p).left (items_treated n p).judged
+unfolding items_treated
+treated_sees {env = env} n i k number here at p sees V c l scopes types inside = (
+  record {
+    item = i;
+    place = k;
+    number = number;
+    env = env;
+    at = inside.names i k env here;
+    stands = subst (StandsFor V env) (sym l.env) (outside_sees at V c.chosen (p.stays.reads V l.reads) (agrees_earlier p.stays l.agrees));
+    typed = λ told. absurd (no_yes (sym (p.sound V c l).starts ∙ told));
+  },
+  sees V c l scopes types inside,
+)
+
 -- of no items nothing is asked
 pub items_none : {E : Choice → Environment} {a : Sight} {G : Letters} (seen : Seen) → ItemsCarried E (λ c. items_ask c seen []) a G a G
-items_none seen = items_between (record { nodes = refl; types = λ i p. refl; noted = λ i p h. h; reports = refl; aloud = refl; level = refl; fixed = refl })
+items_none seen = items_between (record { nodes = refl; types = λ i p. refl; noted = λ i p h. h; scopes = λ i p env h. h; reports = refl; aloud = refl; level = refl; fixed = refl })
 
 -- An item before others: the state after it, and what changes before the next one begins, are those at which the others start.
 pub items_more : {D : Declared} {L : Type 0} {E : Choice → Environment} {m : Item} {seen names : Seen} {a b : Parts} {c d : Sight} {G K : Letters} {after : List Entry} (ms : List Item) → IsSound a.store.nodes → (done : ItemDone D L E m seen names a b G after) → OnlyBetween (sight b) c →
@@ -426,6 +493,7 @@ done_between only done = record {
   carried = items_then only done.carried;
   owners = done.owners;
   clear = done.clear;
+  sees = done.sees;
   outside = done.outside;
   knows = done.knows;
   noted = done.noted;
@@ -434,15 +502,16 @@ done_between only done = record {
   constants = done.constants;
 }
 
--- An item that asks nothing but that its node is treated, adds nothing and names nothing: `;;`.
-pub idle_done : {D : Declared} {K : Type 0} {E : Choice → Environment} {a b : Parts} {G : Letters} {env : List Entry} (n : ℕ) (seen : Seen) → OnlyBetween (sight a) (sight b) → (at : Outside D (sight a) G env E) → HasConstants b → AreNoted at.older b → (K → at.known ≡ true) → ItemDone D K E (recorded_idle n) seen no_names a b G env
+-- An item that asks nothing but that its node is treated, for which the names in scope are recorded, adds nothing and names nothing: `;;`.
+pub idle_done : {D : Declared} {K : Type 0} {E : Choice → Environment} {a b : Parts} {G : Letters} {env : List Entry} (n i k : ℕ) → n ≡ number_in i k → (sight b).scopes i k ≡ Some env → (seen : Seen) → OnlyBetween (sight a) (sight b) → (at : Outside D (sight a) G env E) → HasConstants b → AreNoted at.older b → (K → at.known ≡ true) → ItemDone D K E (recorded_idle n) seen no_names a b G env
 unfolding items_treated items_between outside_between
-idle_done {E = E} {G = G} n seen only at constants noted known = record {
+idle_done {E = E} {G = G} n i p number here seen only at constants noted known = record {
   letters = G;
   env = E;
   carried = items_treated n (items_between only);
   owners = leaves_none none_owned;
   clear = λ k placed. none_doubtful;
+  sees = λ k. treated_sees n i p number here at (items_between only) (λ V c l scopes types inside. tt);
   outside = outside_between only at;
   knows = known;
   noted = noted;
@@ -460,6 +529,7 @@ done_none {E = E} {G = G} seen only at constants noted known = record {
   carried = items_between only;
   owners = none_owned;
   clear = λ k placed. none_doubtful;
+  sees = λ k V c l scopes types inside. tt;
   outside = outside_between only at;
   knows = known;
   noted = noted;
@@ -477,6 +547,7 @@ done_here {E = E} {G = G} seen at constants noted known = record {
   carried = items_none seen;
   owners = none_owned;
   clear = λ k placed. none_doubtful;
+  sees = λ k V c l scopes types inside. tt;
   outside = at;
   knows = known;
   noted = noted;
@@ -493,6 +564,7 @@ weaker follows done = record {
   carried = done.carried;
   owners = done.owners;
   clear = λ l. done.clear (follows l);
+  sees = λ l. done.sees (follows l);
   outside = done.outside;
   knows = λ l. done.knows (follows l);
   noted = done.noted;
@@ -510,6 +582,7 @@ done_one {m = m} {seen = seen} done = record {
   carried = items_as (λ x. sym (append-nil (m.asks x seen))) done.carried;
   owners = done.owners;
   clear = done.clear;
+  sees = λ k. sees_as (λ x. sym (append-nil (m.asks x seen))) done.carried (done.sees k);
   outside = done.outside;
   knows = done.knows;
   noted = done.noted;
@@ -578,6 +651,7 @@ done_then {E = E} {ms = ms} {ns = ns} {seen = seen} {names = names} sound p q fi
   carried = items_as (λ x. asked_both x seen ms ns) (items_trans (λ x. behind_items x ms) p.carried (asked_next p ns) sound q.carried);
   owners = owned_both p.owners q.owners;
   clear = λ m placed. subst NoneDoubtful (sym (letters_both p.carried.left q.carried.left)) (none_both (letters_left p.carried.left) (letters_left q.carried.left) (p.clear (first m) (placed_before q.carried.stays.keeps placed)) (q.clear (second m) placed));
+  sees = λ m. sees_as (λ x. asked_both x seen ms ns) (items_trans (λ x. behind_items x ms) p.carried (asked_next p ns) sound q.carried) (sees_trans (λ x. behind_items x ms) p.carried (asked_next p ns) sound q.carried (p.sees (first m)) (q.sees (second m)));
   outside = q.outside;
   knows = λ m. q.knows (second m);
   noted = q.noted;

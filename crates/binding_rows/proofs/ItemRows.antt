@@ -1,5 +1,5 @@
 -- The `let` of an item, from the calls that type its group, limit its names' types to what was made before it, and close it.
-use Rattle.std.proofs.Common.{inl, inr, ◌≡◌, ◌≢◌, ◌∙◌, ℕ, ◌+◌, ◌-◌, ◌^◌, ◌<◌, ◌≤◌, min, Bool, true, List, [], ◌∷◌, ◌++◌, map, None, Some, refl, sym, ap, subst, arith}
+use Rattle.std.proofs.Common.{inl, inr, ◌≡◌, ◌≢◌, ◌∙◌, ℕ, ◌-◌, ◌^◌, ◌<◌, ◌≤◌, min, Bool, true, List, [], ◌∷◌, ◌++◌, map, None, Some, refl, sym, ap, subst, arith}
 use Rattle.token_model.specs.Kinds.{Tok}
 use Rattle.tree_model.specs.Slots.{is_operand}
 use Rattle.tree_model.specs.Trees.{Place, Tree, yield_of}
@@ -56,9 +56,9 @@ use Rattle.binding_rows.proofs.Scoped.{scopes_carried, inside_carried, scoped_le
 use Rattle.typing_rows.specs.Noted.{AreNoted}
 use Rattle.typing_rows.proofs.Noted.{noted_on}
 use Rattle.binding_rows.proofs.ItemClosing.{item_letters, item_typed, item_bound}
-use Rattle.binding_rows.proofs.Items.{among_group, item_stays, item_carried, item_clear, item_owned}
+use Rattle.binding_rows.proofs.Items.{among_group, item_stays, item_carried, item_clear, item_sees, item_owned}
 use Rattle.binding_rows.proofs.ItemsAfter.{outside_after, after_older, after_known}
-use Rattle.binding_rows.proofs.ItemOrders.{agrees_earlier, items_treated, treated_owned, treated_clear, outside_between, done_between}
+use Rattle.binding_rows.proofs.ItemOrders.{agrees_earlier, items_treated, treated_owned, treated_clear, treated_sees, outside_between, done_between}
 use Rattle.binding_rows.proofs.ItemTurns.{item_begins}
 use Rattle.binding_rows.proofs.Unwritten.{names_unwritten}
 use Rattle.binding_rows.proofs.Lets.{entries_same, held_chosen, level_raised, only_raised}
@@ -135,15 +135,16 @@ item_term i n at t ts node =
     ap (λ r. recorded_item (number_of i n) (item_row r (number_of i n) at ts (parts_of i n t))) node.row
     ∙ (λ k. recorded_item (number_of i n) (Some (let_item (number_of i n) ts (rec_stands i n t k) (bindings_stand i n t node.formed (ap (λ r. is_operand r 2) node.row) k))))
 
--- The `let` of an item: where faults are reported, what it asks is carried, and the next item starts among its names.
-pub item_row_of_node : (x d : Parts) (env after : List Entry) (n : ℕ) (t : Tree) (ts : List Tok) (G : Letters) (E : Choice → Environment) (seen : Seen) → IsItemNode n t → (h : TypesItem x d env after n t) → is_aloud x.telling ≡ true → (at : Outside as_declared (sight x) G env E) → HasConstants x → AreNoted at.older x →
+-- The `let` of an item, for whose node the names in scope are recorded: where faults are reported, what it asks is carried, and the next item starts among its names.
+pub item_row_of_node : (x d : Parts) (env after : List Entry) (n : ℕ) (t : Tree) (ts : List Tok) (G : Letters) (E : Choice → Environment) (seen : Seen) → IsItemNode n t → (h : TypesItem x d env after n t) → is_aloud x.telling ≡ true → (at : Outside as_declared (sight x) G env E) → HasConstants x → AreNoted at.older x → (sight x).scopes x.item n ≡ Some env →
     ((z : Name) → (sight x).written z ≡ None) → HoldsWritten (item_scope (number_of x.item n) ts E) (sight d) → ItemDone as_declared (at.known ≡ true) E (recorded_let x.item ts n t) seen no_names x d G after
-item_row_of_node x d env after n t ts G E seen node h aloud at constants noted cleared named = subst (λ es. ItemDone as_declared (at.known ≡ true) E (recorded_let x.item ts n t) seen no_names x d G es) (sym (h.scope ∙ entries_added (names_closed h.bindings) env)) (record {
+item_row_of_node x d env after n t ts G E seen node h aloud at constants noted here cleared named = subst (λ es. ItemDone as_declared (at.known ≡ true) E (recorded_let x.item ts n t) seen no_names x d G es) (sym (h.scope ∙ entries_added (names_closed h.bindings) env)) (record {
   letters = item_letters group;
   env = env_after E (bindings_of x.item (operands_in n t 2)) h.bindings;
   carried = items_treated (number_of x.item n) (item_carried group);
   owners = treated_owned (number_of x.item n) (item_carried group) (item_owned group (recorded_let x.item ts n t) refl);
   clear = λ known placed. treated_clear (number_of x.item n) (item_carried group) (item_clear group known placed);
+  sees = λ known. treated_sees (number_of x.item n) x.item n refl ((item_stays group).keeps.scopes x.item n env here) at (item_carried group) (item_sees group);
   outside = outside_after group (names_unwritten x.item (operands_in n t 2));
   knows = λ known. after_known group (names_unwritten x.item (operands_in n t 2)) ∙ known;
   noted = subst (λ U. AreNoted U d) (sym (after_older group (names_unwritten x.item (operands_in n t 2)))) (noted_on at.older noted h.goes);
@@ -152,11 +153,11 @@ item_row_of_node x d env after n t ts G E seen node h aloud at constants noted c
   constants = constants_kept x d h.goes constants;
 })
   where
-    here : h.begun.item ≡ x.item
-    here = ap (λ (p : Parts). p.item) h.raised
+    begun_item : h.begun.item ≡ x.item
+    begun_item = ap (λ (p : Parts). p.item) h.raised
 
     typed : TypesGroup h.begun h.done env (is_some (token_in t 1)) (bindings_of x.item (operands_in n t 2)) (map typed_as h.bindings)
-    typed = subst (λ i. TypesGroup h.begun h.done env (is_some (token_in t 1)) (bindings_of i (operands_in n t 2)) (map typed_as h.bindings)) here (h.typed node.bindings)
+    typed = subst (λ i. TypesGroup h.begun h.done env (is_some (token_in t 1)) (bindings_of i (operands_in n t 2)) (map typed_as h.bindings)) begun_item (h.typed node.bindings)
 
     to_close : TypesToClose h.begun h.done env (λ c. bindings_ask c (is_some (token_in t 1)) (bindings_of x.item (operands_in n t 2))) (bindings_of x.item (operands_in n t 2)) h.bindings
     to_close = types_to_close h.begun h.done env (is_some (token_in t 1)) (bindings_of x.item (operands_in n t 2)) h.bindings (h.judged node.bindings x.item) typed
@@ -179,11 +180,12 @@ written_goes : (a b : Parts) (w : Written) → Goes a b → Goes a (record b { w
 written_goes a b w g = record { store = g.store; types = g.types; faults = g.faults; index = g.index; recorded = g.recorded; item = g.item; telling = g.telling; constants = g.constants }
 
 -- The call for an item's `let`: its node is noted, the type variables that were written are forgotten, and its `let` is typed, in which only its own type variables are written.
-pub let_given : (a b c d : Parts) (w : Written) (env after : List Entry) (n : ℕ) (t : Tree) → OnlyNotes a b → Goes a b → c ≡ record b { written = w } → ((z : Name) → written_in w z ≡ None) → TypesItem c d env after n t → AreWrittenIn (yield_of t) d.written → GivesLet a d env after n t
+pub let_given : (a b c d : Parts) (w : Written) (env after : List Entry) (n : ℕ) (t : Tree) → OnlyNotes a b → Goes a b → c ≡ record b { written = w } → ((z : Name) → written_in w z ≡ None) → TypesItem c d env after n t → AreWrittenIn (yield_of t) d.written → (is_aloud a.telling ≡ true → (sight b).scopes a.item n ≡ Some env) → GivesLet a d env after n t
 unfolding outside_between
-let_given a b c d w env after n t notes goes same none typed own G E seen node aloud at constants noted =
+let_given a b c d w env after n t notes goes same none typed own recorded G E seen node aloud at constants noted =
     let only = item_begins a b c w notes same in
     let here : c.item ≡ a.item = ap (λ (p : Parts). p.item) same ∙ notes.rest.item in
     let goes' : Goes a c = subst (Goes a) (sym same) (written_goes a b w goes) in
+    let scoped : (sight c).scopes c.item n ≡ Some env = subst (λ (p : Parts). (sight p).scopes c.item n ≡ Some env) (sym same) (ap (λ i. (sight b).scopes i n) here ∙ recorded aloud) in
     done_between only (subst (λ i. ItemDone as_declared (at.known ≡ true) E (recorded_let i (yield_of t) n t) seen no_names c d G after) here
-    (item_row_of_node c d env after n t (yield_of t) G E seen node typed (only.aloud ∙ aloud) (outside_between only at) (constants_kept a c goes' constants) (noted_on at.older noted goes') (λ z. ap (λ (p : Parts). written_in p.written z) same ∙ none z) own))
+    (item_row_of_node c d env after n t (yield_of t) G E seen node typed (only.aloud ∙ aloud) (outside_between only at) (constants_kept a c goes' constants) (noted_on at.older noted goes') scoped (λ z. ap (λ (p : Parts). written_in p.written z) same ∙ none z) own))

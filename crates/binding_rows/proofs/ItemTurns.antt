@@ -84,7 +84,7 @@ names_end {R} all left none first = subst R (sym (first.splits ∙ ap (λ ys. fi
 pub item_begins : (a b c : Parts) (w : Written) → OnlyNotes a b → c ≡ record b { written = w } → OnlyBetween (sight a) (sight c)
 item_begins a b c w notes same =
     let only = notes_unseen a b notes in
-    subst (λ x. OnlyBetween (sight a) (sight x)) (sym same) (record { nodes = only.nodes; types = only.types; noted = only.noted; reports = notes_untold a b notes; aloud = only.aloud; level = only.level; fixed = only.fixed })
+    subst (λ x. OnlyBetween (sight a) (sight x)) (sym same) (record { nodes = only.nodes; types = only.types; noted = only.noted; scopes = only.scopes; reports = notes_untold a b notes; aloud = only.aloud; level = only.level; fixed = only.fixed })
 
 -- no type variable is written once they are forgotten
 pub none_written : (w : Written) → w.variables.entries ≡ [] → (z : Name) → written_in w z ≡ None

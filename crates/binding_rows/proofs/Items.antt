@@ -15,17 +15,18 @@ use Rattle.env_table.specs.declared.entries.Entry.{Entry}
 use Rattle.typing_state.specs.declared.parts.Parts.{Parts}
 use Rattle.typing_conditions.proofs.Own.{own_of}
 use Rattle.typing_conditions.proofs.Fresh.{reads_closed, fits_closed}
-use Rattle.typing_conditions.specs.Sights.{Sight, Letters, AreGiven, AreNodes, IsInside}
+use Rattle.typing_conditions.specs.Sights.{Scopes, Recorded, Sight, Letters, AreGiven, AreNodes, IsInside}
 use Rattle.typing_conditions.specs.Judging.{Judgement}
 use Rattle.typing_conditions.specs.Carrying.{Asks, HoldsWritten, HoldsUnbound, IsUnder, Enters, ReadsOff}
 use Rattle.typing_conditions.specs.Surroundings.{Declared}
 use Rattle.typing_conditions.proofs.Inward.{reached_inward}
+use Rattle.typing_conditions.proofs.Judged.{meets_any}
 use Rattle.typing_conditions.proofs.Meaning.{open_unbound, nodes_in}
 use Rattle.typing_steps.specs.States.{sight}
 use Rattle.binding_rows.specs.Closing.{Limit}
 use Rattle.binding_rows.specs.Decided.{IsAmong}
 use Rattle.binding_rows.specs.Lets.{ToClose}
-use Rattle.binding_rows.specs.Outside.{letters_left, AgreesOutside, AreInside, Left, IsLeft, EntersItems, ReadsItems, StaysOutside, ItemsCarried}
+use Rattle.binding_rows.specs.Outside.{Lasts, letters_left, AgreesOutside, AreInside, Left, IsLeft, EntersItems, ReadsItems, StaysOutside, ItemsCarried, SeesItems}
 use Rattle.binding_rows.specs.ItemRows.{AreOwned, none_owned, leaves_one}
 use Rattle.binding_rows.specs.ItemGroups.{item_scope, ItemGroup}
 use Rattle.binding_rows.proofs.Starting.{group_frame, goes_in, surrounds_item}
@@ -64,7 +65,7 @@ module _ {D : Declared} {n : ℕ} {ts : List Tok} {E : Choice → Environment} {
     reads = λ V h. subst (λ ns. IsReading ns V) l.only.nodes ((item_part l).stays.reads V (reads_before_close V h));
     refines = item_refines l;
     recorded = λ i k m e. (item_out l).types i k ∙ (item_part l).stays.recorded i k m (l.only.types i k ∙ e);
-    keeps = keeps_both (keeps_as l.only.noted l.only.types) (keeps_both (item_part l).stays.keeps (keeps_as (item_out l).noted (item_out l).types));
+    keeps = keeps_both (keeps_as l.only.noted l.only.scopes l.only.types) (keeps_both (item_part l).stays.keeps (keeps_as (item_out l).noted (item_out l).scopes (item_out l).types));
     given = (item_part l).stays.given;
     inside = λ i. inside_end ((item_part l).stays.inside (inside_start i));
     aloud = (item_out l).aloud ∙ (item_part l).stays.aloud ∙ l.only.aloud;
@@ -90,8 +91,8 @@ module _ {D : Declared} {n : ℕ} {ts : List Tok} {E : Choice → Environment} {
       by None f = left.others k z e f v (still_bound l v bound)
       by (Some m) f = ap (occurs v) (left.written z m f) ∙ open_unbound ((item_written l).each z m (sym ((item_out l).written z) ∙ f)) V (reads_before_close V reads) v bound
 
-  reads_off : {js : List Judgement} (V : Types) (c : Context) → ReadsItems E (sight d) (item_letters l) (item_left ∷ []) js V c → ReadsOff (group_frame l) (item_scope n ts E) (item_limited l) (item_letters l) (item_part l).hidden js V (inside_item n ts c)
-  reads_off V c r = record {
+  reads_off : {js : List Judgement} (V : Types) (c : Context) → ReadsItems E (sight d) (item_letters l) (item_left ∷ []) js V c → (scopes : Scopes) (types : Recorded) → Lasts (sight d) scopes types → ReadsOff (group_frame l) (item_scope n ts E) (item_limited l) (item_letters l) (item_part l).hidden js V (inside_item n ts c)
+  reads_off V c r scopes types inside = record {
     under = under_item c r.env;
     reads = reads_before_close V r.reads;
     agrees = record {
@@ -104,6 +105,10 @@ module _ {D : Declared} {n : ℕ} {ts : List Tok} {E : Choice → Environment} {
     named = named_there;
     unbound = unbound_there V c r.reads r.left_too.0;
     kept = r.kept;
+    scopes = scopes;
+    in_the_end = λ i k names h. inside.names i k names ((item_out l).scopes i k names h);
+    types = types;
+    types_too = λ i k m h. inside.nodes i k m ((item_out l).types i k ∙ h);
   }
 
   enters_group : (V : Types) (c : Context) → EntersItems E (sight x) G V c → Enters (group_frame l) (item_scope n ts E) y G V (inside_item n ts c)
@@ -145,13 +150,13 @@ module _ {D : Declared} {n : ℕ} {ts : List Tok} {E : Choice → Environment} {
     stays = item_stays;
     left = item_left ∷ [];
     opened = λ k x e. elim (item_copies l k x e) [ inl before ↦ inl before | inr left ↦ inr (copy_first (item_part l).hidden [] left) ];
-    settled = subst (Settles (sight x) (sight d)) (sym (append-nil (item_part l).hidden)) (settles_as (item_part l).hidden (keeps_as l.only.noted l.only.types) (keeps_as (item_out l).noted (item_out l).types) (item_part l).settled);
+    settled = subst (Settles (sight x) (sight d)) (sym (append-nil (item_part l).hidden)) (settles_as (item_part l).hidden (keeps_as l.only.noted l.only.scopes l.only.types) (keeps_as (item_out l).noted (item_out l).scopes (item_out l).types) (item_part l).settled);
     judged = (item_part l).judged;
     told = (item_part l).told;
     reports = (item_out l).reports ∙ (item_part l).reports ∙ ap (λ rs. rs ++ (item_part l).told) l.only.reports;
     counted = (item_part l).counted;
-    sound = λ V c r. (item_part l).sound (reached_inward (goes_in l) l.only l.raised) V (inside_item n ts c) (reads_off V c r);
-    follows = λ V c r. (item_part l).follows (reached_inward (goes_in l) l.only l.raised) V (inside_item n ts c) (reads_off V c r);
+    sound = λ V c r. meets_any ((item_part l).sound (reached_inward (goes_in l) l.only l.raised) V (inside_item n ts c) (reads_off V c r (sight d).scopes (sight d).types (record { names = λ i k names h. h; nodes = λ i k m h. h })));
+    follows = λ V c r. (item_part l).follows (reached_inward (goes_in l) l.only l.raised) V (inside_item n ts c) (reads_off V c r (sight d).scopes (sight d).types (record { names = λ i k names h. h; nodes = λ i k m h. h }));
     complete = λ V c e h. elim ((item_part l).complete named_there V (inside_item n ts c) (enters_group V c e) h) [
       | inl goes ↦ inl (record {
         same = goes.same;
@@ -176,7 +181,12 @@ module _ {D : Declared} {n : ℕ} {ts : List Tok} {E : Choice → Environment} {
   -- Where all that is to be known of names is, no letter that is left is in doubt.
   pub item_clear : l.at.known ≡ true → ArePlaced (sight d) → NoneDoubtful (letters_left item_carried.left)
   unfolding item_carried
-  item_clear known placed = subst NoneDoubtful (sym (append-nil (item_part l).hidden)) ((item_part l).clear known (placed_before (keeps_as (item_out l).noted (item_out l).types) placed))
+  item_clear known placed = subst NoneDoubtful (sym (append-nil (item_part l).hidden)) ((item_part l).clear known (placed_before (keeps_as (item_out l).noted (item_out l).scopes (item_out l).types) placed))
+
+  -- For each node that is treated in it the names in scope are recorded.
+  pub item_sees : SeesItems E (λ c. asks (inside_item n ts c)) (sight d) (item_letters l) item_carried.left item_carried.judged
+  unfolding item_carried reads_off
+  item_sees V c r scopes types inside = ((item_part l).sound (reached_inward (goes_in l) l.only l.raised) V (inside_item n ts c) (reads_off V c r scopes types inside)).sees
 
   -- It is the item's own that was left.
   pub item_owned : (m : Item) → n ≡ m.node → AreOwned (m ∷ []) item_carried.left

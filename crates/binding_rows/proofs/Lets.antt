@@ -314,7 +314,7 @@ let_typed {xs = xs} n at is_rec e l body = record {
 
 -- the level is raised, and nothing else is done
 pub only_raised : (x y : Parts) → y ≡ record x { level = x.level + 1 } → OnlyLevel (sight x) (sight y)
-only_raised x y e = subst (λ z. OnlyLevel (sight x) (sight z)) (sym e) (record { nodes = refl; types = λ i p. refl; noted = λ i p h. h; written = λ n. refl; reports = refl; aloud = refl; item = refl; fixed = refl })
+only_raised x y e = subst (λ z. OnlyLevel (sight x) (sight z)) (sym e) (record { nodes = refl; types = λ i p. refl; noted = λ i p h. h; scopes = λ i p env h. h; written = λ n. refl; reports = refl; aloud = refl; item = refl; fixed = refl })
 
 pub level_raised : (x y : Parts) → y ≡ record x { level = x.level + 1 } → y.level ≡ suc x.level
 level_raised x y e = ap (λ (p : Parts). p.level) e ∙ (let s : x.level + 1 ≡ suc x.level = omega arith in s)

@@ -79,7 +79,7 @@ right_of_node a b env n t os w o right m given written body typed = λ carried.
 -- the same after the record of its number
 pub right_node_recorded : (a b d : Parts) (env : List Entry) (n : ℕ) (t : Tree) (right m : ℕ) → NotedNameless a b n env None → OnlyIndex a b → Goes a b → TypesRightNode b d env n t right m → RecordsRightNode a d env n t right m
 right_node_recorded a b d env n t right m noted rest goes typed = λ carried.
-    right_recorded a b d env n (binding_over a.item n t) right m noted rest goes (subst (λ i. TypesRight b d env (λ c. right_side c (binding_over i n t)) (binding_over i n t) right m) goes.item (typed carried))
+    right_recorded a b d env n (binding_over a.item n t) right m refl noted rest goes (subst (λ i. TypesRight b d env (λ c. right_side c (binding_over i n t)) (binding_over i n t) right m) goes.item (typed carried))
 
 -- the demand on a pattern, and the warnings of it
 pub whole_of_pattern : (a b d : Parts) (o : Numbered) (found whole : ℕ) → AsksEqual a b o.at found whole → OnlyWarnings b d → AsksWholeOf a d o found whole
@@ -138,7 +138,7 @@ open_there a b d env o nd seen then names found ys zs there grown noted rest goe
     let x = binding_over a.item o.number (node_view nd.now) in
     let h = subst (λ i. Matches b d env (pattern_of i p) [] names seen then found) goes.item (matched here.pattern) in
     subst (λ x. OpensIf a d env seen then ys zs x) (sym (binding_there a.item o nd there here))
-    (record { one = record { node = found; names = names }; adds = grown; sees = h.adds.sees; opened = open_typed a b d env o.number x seen names found noted rest goes (matches_named h) })
+    (record { one = record { node = found; names = names }; adds = grown; sees = h.adds.sees; opened = open_typed a b d env o.number x seen names found refl noted rest goes (matches_named h) })
 
 -- the right side of a node whose pattern is typed
 pub conclusion_of_node : (a b d : Parts) (env : List Entry) (n : ℕ) (t : Tree) (o : OpenedBinding) (right whole : ℕ) → TypesRightNode a b env n t right whole → Goes a b → AsksWholeOf b d (filled_in n t 0) o.node whole →

@@ -4,7 +4,6 @@ use Rattle.tree_model.specs.Rows.{efun_row}
 use Rattle.tree_model.specs.Slots.{is_operand}
 use Rattle.tree_model.specs.Trees.{Place, Tree}
 use Rattle.type_model.specs.Types.{Typ}
-use Rattle.type_model.specs.Types.{Typ as type}
 use Rattle.row_parts.specs.Numbered.{operands_in, filled_in}
 use Rattle.typing_model.specs.Contexts.{Choice, with_names}
 use Rattle.typing_model.specs.Parts.{Expression, Pattern, expression_in}

@@ -11,7 +11,7 @@ use Rattle.env_table.specs.declared.entries.Entry.{Entry}
 use Rattle.typing_state.specs.declared.parts.Parts.{Parts}
 use Rattle.typing_state.specs.Goes.{Goes, OnlyIndex}
 use Rattle.typing_state.specs.Notes.{NotedNameless}
-use Rattle.typing_conditions.specs.Sights.{own, Letters}
+use Rattle.typing_conditions.specs.Sights.{own, number_in, Letters}
 use Rattle.typing_conditions.specs.Frames.{Frame}
 use Rattle.typing_conditions.specs.Meanings.{Means, AllMean}
 use Rattle.typing_conditions.specs.Carrying.{Scope, Carried, CarriedTo}
@@ -20,7 +20,7 @@ use Rattle.typing_conditions.specs.Hiding.{AreDone}
 use Rattle.typing_conditions.proofs.Answering.{then_to, then_made}
 use Rattle.typing_conditions.proofs.Carried.{carried_refl, carried_trans, carried_as, done_then, done_as, done_last}
 use Rattle.typing_conditions.proofs.Meaning.{means_on, all_mean_on}
-use Rattle.typing_conditions.proofs.Surrounding.{surrounds_on}
+use Rattle.typing_conditions.proofs.Surrounding.{surrounds_on, surrounds_sees}
 use Rattle.typing_conditions.proofs.Hiding.{done_none, done_both}
 use Rattle.typing_steps.specs.States.{is_aloud, sight}
 use Rattle.typing_steps.specs.Typing.{as_declared, TypesTo, AsksEqual}
@@ -120,9 +120,9 @@ right_of_parts a b env x right m typed = λ aloud F scope G s.
     }
 
 -- the same after the record of the binding's number
-pub right_recorded : (a b d : Parts) (env : List Entry) (number : ℕ) (x : Binding) (right m : ℕ) → NotedNameless a b number env None → OnlyIndex a b → Goes a b → TypesRight b d env (λ c. right_side c x) x right m →
+pub right_recorded : (a b d : Parts) (env : List Entry) (number : ℕ) (x : Binding) (right m : ℕ) → number_in a.item number ≡ x.node → NotedNameless a b number env None → OnlyIndex a b → Goes a b → TypesRight b d env (λ c. right_side c x) x right m →
     TypesRight a d env (λ c. tell x.node c ++ right_side c x) x right m
-right_recorded a b d env number x right m noted rest goes typed = λ aloud F scope G s.
-    let y = plain_noted a b {F = F} {scope = scope} {G = G} number env x.node (λ c. c.env) noted rest in
+right_recorded a b d env number x right m place noted rest goes typed = λ aloud F scope G s.
+    let y = plain_noted a b {F = F} {scope = scope} {G = G} number env x.node place aloud noted rest (surrounds_sees s) in
     let z = typed (ap is_aloud goes.telling ∙ aloud) F scope G (surrounds_on y.stays s) in
     record { own = z.own; typed = record { carried = carried_trans y z.typed.carried; means = z.typed.means }; done = done_last y z.typed.carried z.done; right_means = z.right_means }

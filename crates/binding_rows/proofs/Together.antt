@@ -9,13 +9,13 @@ use Rattle.env_table.specs.declared.entries.Entry.{Entry}
 use Rattle.typing_state.specs.declared.parts.Parts.{Parts}
 use Rattle.typing_state.specs.Goes.{Goes, OnlyIndex}
 use Rattle.typing_state.specs.Notes.{NotedNameless}
-use Rattle.typing_conditions.specs.Sights.{Sight, Letters}
+use Rattle.typing_conditions.specs.Sights.{Sight, number_in, Letters}
 use Rattle.typing_conditions.specs.Frames.{Frame}
 use Rattle.typing_conditions.specs.Carrying.{Carried}
 use Rattle.typing_conditions.specs.Surroundings.{Surrounds}
 use Rattle.typing_conditions.proofs.Carried.{carried_refl, carried_trans, carried_as, done_then, done_as, done_last}
 use Rattle.typing_conditions.proofs.Meaning.{means_on}
-use Rattle.typing_conditions.proofs.Surrounding.{surrounds_on}
+use Rattle.typing_conditions.proofs.Surrounding.{surrounds_on, surrounds_sees}
 use Rattle.typing_conditions.proofs.Hiding.{done_none, done_both}
 use Rattle.typing_steps.specs.States.{is_aloud, sight}
 use Rattle.typing_steps.specs.Typing.{as_declared}
@@ -31,10 +31,10 @@ use Rattle.binding_rows.proofs.Typed.{all_typed_on, all_typed_more, all_opened_o
 use Rattle.pattern_rows.proofs.Opened.{done_grouped}
 
 -- the pattern of a binding with its number
-pub open_typed : (a b d : Parts) (env : List Entry) (number : ℕ) (x : Binding) (seen : List Name) (added : List Bind) (found : ℕ) → NotedNameless a b number env None → OnlyIndex a b → Goes a b → MatchesTo b d env x.pattern seen added found →
+pub open_typed : (a b d : Parts) (env : List Entry) (number : ℕ) (x : Binding) (seen : List Name) (added : List Bind) (found : ℕ) → number_in a.item number ≡ x.node → NotedNameless a b number env None → OnlyIndex a b → Goes a b → MatchesTo b d env x.pattern seen added found →
     OpensBinding a d env seen x (record { node = found; names = added })
-open_typed a b d env number x seen added found noted rest goes matched = λ aloud F scope G s.
-    let p = plain_noted a b {F = F} {scope = scope} {G = G} number env x.node (λ c. c.env) noted rest in
+open_typed a b d env number x seen added found place noted rest goes matched = λ aloud F scope G s.
+    let p = plain_noted a b {F = F} {scope = scope} {G = G} number env x.node place aloud noted rest (surrounds_sees s) in
     let q = matched.typed (ap is_aloud goes.telling ∙ aloud) F scope G (surrounds_on p.stays s) in
     record { own = matched.opens; carried = carried_trans p q.typed.carried; done = done_last p q.typed.carried q.done; opened = record { means = q.typed.means; names = q.names } }
 

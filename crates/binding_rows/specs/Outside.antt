@@ -17,8 +17,9 @@ use Rattle.typing_conditions.specs.Locals.{IsOwn, Refines, IsContext}
 use Rattle.typing_conditions.specs.Assumptions.{SchemeFits, SchemeReads}
 use Rattle.typing_conditions.specs.Standing.{IsIn, Covers, Stands}
 use Rattle.typing_conditions.specs.Declared.{UnknownApart}
-use Rattle.typing_conditions.specs.Sights.{Sight, Key, Report, number_in, Letters, AreGiven, AreNodes, SameAt}
-use Rattle.typing_conditions.specs.Judging.{Judgement, judgements, refused, AreKept, Follows, StartsWith, FallsShort, Meets}
+use Rattle.typing_conditions.specs.Sights.{Scopes, AreScopesIn, Recorded, AreTypesIn, Sight, Key, Report, number_in, Letters, AreGiven, AreNodes, SameAt}
+use Rattle.typing_conditions.specs.Seeing.{IsSeen}
+use Rattle.typing_conditions.specs.Judging.{Judgement, judgements, refused, AreKept, Follows, StartsWith, FallsShort, AllSeen, AnySeen, Meets}
 use Rattle.typing_conditions.specs.Carrying.{Asks, AreHidden}
 use Rattle.typing_conditions.specs.Hiding.{Keeps, HasCopy, Settles}
 use Rattle.typing_conditions.specs.Surroundings.{Declared, IsSteady, KnowsNames}
@@ -139,6 +140,7 @@ pub record OnlyBetween (a b : Sight) : Type 0 where
   pub nodes : b.nodes ≡ a.nodes
   pub types : (i p : ℕ) → b.types i p ≡ a.types i p
   pub noted : (i p : ℕ) → a.noted i p ≡ true → b.noted i p ≡ true
+  pub scopes : AreScopesIn a.scopes b.scopes
   pub reports : b.reports ≡ a.reports
   pub aloud : b.aloud ≡ a.aloud
   pub level : b.level ≡ a.level
@@ -155,8 +157,18 @@ pub record ItemsCarried (E : Choice → Environment) (asks : Asks) (a : Sight) (
   pub told : List Report
   pub reports : b.reports ≡ a.reports ++ told
   pub counted : length told ≡ refused judged
-  pub sound : (V : Types) (c : Context) → ReadsItems E b G' left judged V c → Meets c.kept (asks c) judged told
+  pub sound : (V : Types) (c : Context) → ReadsItems E b G' left judged V c → Meets AnySeen c.kept (asks c) judged told
   pub follows : (V : Types) (c : Context) → ReadsItems E b G' left [] V c → Follows c.kept (asks c) judged
   pub complete : (V : Types) (c : Context) → EntersItems E a G V c → AllHold c.kept (asks c) → ContinuesItems asks a b G' left judged V c ⊎ FallsShort (judgements c.kept (asks c)) judged
   pub first : (k : ℕ) (V : Types) (c : Context) → EntersItems E a G V c → AllHold c.kept (take k (asks c)) →
       StartsWith judged (judgements c.kept (take k (asks c))) ⊎ FallsShort (judgements c.kept (take k (asks c))) judged
+
+-- what is recorded in a state, the names in scope and the types, is recorded in the end
+pub record Lasts (b : Sight) (scopes : Scopes) (types : Recorded) : Type 0 where
+  pub names : AreScopesIn b.scopes scopes
+  pub nodes : AreTypesIn b.types types
+
+-- At each reading of the state after items, for each node that is treated in them the names in scope are recorded, which stand for those of the environment in which it is: in that state, and in
+-- whatever is recorded in the end.
+abbrev pub SeesItems : (E : Choice → Environment) → Asks → Sight → Letters → List Left → List Judgement → Type 0
+SeesItems E asks b G left judged = (V : Types) (c : Context) → ReadsItems E b G left judged V c → (scopes : Scopes) (types : Recorded) → Lasts b scopes types → AllSeen (IsSeen scopes types V) (asks c)

@@ -40,6 +40,7 @@ use Rattle.typing_rows.specs.Contracts.{TypesEach}
 use Rattle.record_rows.specs.Fields.{RecordHere, BeginsField}
 use Rattle.record_rows.specs.Operands.{labels_at}
 use Rattle.record_rows.specs.Values.{FieldsWritten, FieldsWrittenFirst}
+use Rattle.record_steps.specs.Recording.{NotesScope}
 use Rattle.record_rows.specs.ValueOperands.{value_fields_of, IsCarriedValue, PunsValue, TypesFieldBy, TypesFieldPart}
 use Rattle.record_rows.specs.RecordExpressions.{TypesHere, HasRecord, GivesRecord, RefusesIf, values_of, loose_part, FindsRecord, FindsUpdated, EndsRecord, TypesMade, TypesLoose, TypesUpdated, IsLooseAt, IsRecordNode}
 use Rattle.record_rows.proofs.Nodes.{notes_ask}
@@ -77,7 +78,7 @@ labels_more old new qs (Some t) e = ap (map (λ (t : Tok). t.name)) e ∙ map-ap
 
 -- a field with a value of its own
 pub field_given : {A E : Type 0} (r : Result A E) (a mid d : Parts) (env : List Entry) (found : RecordType) (number : ℕ) (l : operands.Written) (given : Option Operand) (o : Operand) (wanted : Option NodeRef) (old new : List (Bor Token)) → given ≡ Some o →
-    of_code.BeginsField found a mid (names_written old) (path_as l) (option_map (λ (n : NodeRef). n.0) wanted) → Goes a mid → toks_of new ≡ toks_of old ++ label_if l.last → OnOk r (RecordsValue mid d env (operand_view o) (option_map (λ (n : NodeRef). n.0) wanted)) →
+    of_code.BeginsField found a mid (names_written old) (path_as l) (option_map (λ (n : NodeRef). n.0) wanted) → Goes a mid → toks_of new ≡ toks_of old ++ label_if l.last → OnOk r (RecordsValue mid d env (number_of mid.item number) (operand_view o) (option_map (λ (n : NodeRef). n.0) wanted)) →
     OnOk r (TypesFieldBy (option_map operand_view given) a d env (here_of found) number (path_as l) (names_written old) (names_written new))
 field_given (Err e) a mid d env found number l given o wanted old new there begins goes labelled h = tt
 field_given (Ok x) a mid d env found number l given o wanted old new there begins goes labelled h =
@@ -86,7 +87,7 @@ field_given (Ok x) a mid d env found number l given o wanted old new there begin
       told = h.told;
       type = option_map (λ (n : NodeRef). n.0) wanted;
       begins = begins_here found a mid (names_written old) (path_as l) (option_map (λ (n : NodeRef). n.0) wanted) begins;
-      noted = h.noted;
+      noted = subst (λ i. NotesScope mid h.told (number_of i number) env) goes.item h.noted;
       value = h.value;
       goes_mid = goes;
       goes_told = h.goes;

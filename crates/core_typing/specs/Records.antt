@@ -11,7 +11,7 @@ use Rattle.typing_steps.specs.Typing.{path_as}
 use Rattle.operand_laws.specs.Operands.{expression_of}
 use Rattle.typing_rows.specs.CarriedRows.{IsCarried}
 use Rattle.typing_rows.specs.Contracts.{TypesAsIf}
-use Rattle.record_steps.specs.Recording.{AsksNothing}
+use Rattle.record_steps.specs.Recording.{NotesScope}
 use Rattle.record_rows.specs.ValueOperands.{IsCarriedValue}
 use Rattle.record_rows.specs.RecordExpressions.{TypesMade, TypesLoose, TypesUpdated}
 use Rattle.expression_steps.specs.declared.fields.Pieces.{Pieces}
@@ -33,9 +33,9 @@ abbrev pub TypesPieces : Option Tok → (a d : Parts) → List Entry → Pieces 
 TypesPieces None a d env p m = TypesMadeOr (label_at (operand_view p.first).part) a d env p m
 TypesPieces (Some w) a d env p m = TypesUpdated a d env (operand_view p.first) (map operand_view p.fields.items) m
 
--- A field's node is recorded, and its value has this type, where there is one.
-pub record RecordsValue (a d : Parts) (env : List Entry) (o : Numbered) (ty : Option ℕ) : Type 0 where
+-- A field's node k is recorded, and its value has this type, where there is one.
+pub record RecordsValue (a d : Parts) (env : List Entry) (k : ℕ) (o : Numbered) (ty : Option ℕ) : Type 0 where
   pub told : Parts
-  pub noted : AsksNothing a told
+  pub noted : NotesScope a told k env
   pub goes : Goes a told
   pub value : IsCarried o → TypesAsIf told d env (expression_of told.item o) ty

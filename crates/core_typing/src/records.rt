@@ -261,7 +261,7 @@ fn type_value(
     env: &Env,
     depth: Depth,
 ) -> Result<(), NoMemory>
-    ensures carries { OnOk result (RecordsValue at.old at.new env.now (operand_view value.entry) (option_map (λ w. w.0) wanted)) }
+    ensures carries { OnOk result (RecordsValue at.old at.new env.now (number_of at.old.item number) (operand_view value.entry) (option_map (λ w. w.0) wanted)) }
     ensures goes { Goes at.old at.new }
 {
     note_label(at, number, env, found, label)?;

@@ -38,7 +38,7 @@ use Rattle.typing_rows.proofs.Placed.{first_operand}
 use Rattle.declared_rows.proofs.Continuing.{fits_declared}
 use Rattle.binding_rows.specs.ItemRows.{recorded_exception, AreDeclared, GivesException}
 use Rattle.binding_rows.specs.Outside.{Outside}
-use Rattle.binding_rows.proofs.ItemKinds.{noted_between}
+use Rattle.binding_rows.proofs.ItemKinds.{still_scoped, noted_between}
 use Rattle.binding_rows.proofs.ItemOrders.{items_treated, treated_owned, outside_between}
 use Rattle.first_laws.specs.Declaring.{OnlyTypes, StartsAfter}
 use Rattle.first_laws.proofs.Exceptions.{outside_exception, exception_types}
@@ -77,10 +77,10 @@ module _ (b d : Parts) {G : Letters} {env : List Entry} {E : Choice → Environm
   name_is = one_name (token_in u 0) name one.name named one.named ∙ sym one.entry.name
 
   on_types : OnlyTypes (sight b) (sight d)
-  on_types = exception_types (sight d) at (own_types b at constants) (own_at b at constants) (exn_node b at constants) (exn_inside b at constants) (exn_closed b at constants) refl z.to.on z.settled.type z.to.denotes z.closes z.plain z.sound z.level (record { types = untyped.types; noted = still_noted goes })
+  on_types = exception_types (sight d) at (own_types b at constants) (own_at b at constants) (exn_node b at constants) (exn_inside b at constants) (exn_closed b at constants) refl z.to.on z.settled.type z.to.denotes z.closes z.plain z.sound z.level (record { types = untyped.types; noted = still_noted goes; scopes = still_scoped goes })
 
   next_starts : StartsAfter at (sight d) G (y ∷ []) (named_entry ∷ []) z.numbers
-  next_starts = outside_exception (sight d) at (own_types b at constants) (own_at b at constants) (exn_node b at constants) (exn_inside b at constants) (exn_closed b at constants) refl z.to.on z.settled.type z.to.denotes z.closes z.plain z.sound z.level (record { types = untyped.types; noted = still_noted goes })
+  next_starts = outside_exception (sight d) at (own_types b at constants) (own_at b at constants) (exn_node b at constants) (exn_inside b at constants) (exn_closed b at constants) refl z.to.on z.settled.type z.to.denotes z.closes z.plain z.sound z.level (record { types = untyped.types; noted = still_noted goes; scopes = still_scoped goes })
       y named_entry one.entry.cell one.entry.what one.entry.root takes name_is (sym (ap kind_of one.entry.kind)) refl
 
   -- the entries that it adds
@@ -105,6 +105,7 @@ module _ (b d : Parts) {G : Letters} {env : List Entry} {E : Choice → Environm
           env = λ ch. named_entry ∷ E ch;
           carried = items_treated N carried;
           clear = λ k placed. absurd k;
+          sees = λ k. absurd k;
           knows = λ k. absurd k;
           owners = treated_owned N carried (settled_owned at on_types (own_types b at constants) (own_at b at constants) [] z.settled.settled (λ c. exception_asks c part) (λ c. refl) z.settled.reports (ap is_aloud goes.telling) (ap fixed_of goes.constants)
               (λ V fits. fits_declared (frame_declares b at constants) z.to.on.assigns z.closes V fits) N (recorded_exception b.item n k u) declared);

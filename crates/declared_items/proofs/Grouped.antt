@@ -12,6 +12,7 @@ use Rattle.typing_conditions.specs.Frames.{Frame, Reaches}
 use Rattle.typing_steps.specs.States.{sight, is_aloud, fixed_of, reports_of}
 use Rattle.type_expressions.specs.Untyped.{Untyped}
 use Rattle.typing_rows.proofs.Noted.{still_noted}
+use Rattle.binding_rows.proofs.ItemKinds.{still_scoped}
 use Rattle.declared_rows.specs.Assignments.{Assignment, Assigns}
 use Rattle.binding_rows.specs.Outside.{OnlyBetween}
 use Rattle.decl_groups.specs.declared.groups.DeclarationPart.{DeclarationPart}
@@ -132,6 +133,7 @@ index_between rest untyped goes = record {
   nodes = ap (λ s. s.nodes) rest.store;
   types = untyped.types;
   noted = still_noted goes;
+  scopes = still_scoped goes;
   reports = ap (λ f. reports_of f.list.items) rest.faults;
   aloud = ap is_aloud rest.telling;
   level = rest.level;

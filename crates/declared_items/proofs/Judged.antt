@@ -1,5 +1,5 @@
 -- A demand that was judged, and changed nothing but what is reported, is carried between items.
-use Rattle.std.proofs.Common.{◌≡◌, ℕ, Bool, true, List, [], refl, sym, ap, subst}
+use Rattle.std.proofs.Common.{◌≡◌, ℕ, Bool, true, List, [], Some, refl, sym, ap, subst}
 use Rattle.typing_laws.proofs.Bools.{no_yes}
 use Rattle.signature_model.specs.Entries.{Environment}
 use Rattle.typing_model.specs.Contexts.{Choice, Context, parameters}
@@ -31,6 +31,7 @@ faults_types {a} {b} rest sound = record {
   level = rest.level;
   types = λ i p. ap (λ x. (sight (record a { index = x })).types i p) rest.index;
   noted = λ i p h. subst (λ x. (sight (record a { index = x })).noted i p ≡ true) (sym rest.index) h;
+  scopes = λ i p env h. subst (λ x. (sight (record a { index = x })).scopes i p ≡ Some env) (sym rest.index) h;
   refines = λ K own. subst (λ s. Refines a.store.nodes s.nodes K) (sym rest.store) (refines_none a.store.nodes K (subst (λ s. IsOwn s.nodes K) rest.store own));
   reads = λ V h. subst (λ s. IsReading s.nodes V) rest.store h;
 }

@@ -255,6 +255,7 @@ module _ (b d : Parts) {G : Letters} {env : List Entry} {E : Choice → Environm
           carried = whole;
           owners = owned_all whole.left (λ c. tt);
           clear = λ k placed. absurd k;
+          sees = λ k. absurd k;
           knows = λ k. absurd k;
           outside = outside_between last next.outside;
           noted = subst (λ U. AreNoted U d) (sym (next.older ∙ declared_there.older)) (noted_on z.numbers z.noted one.own.notes);
@@ -280,6 +281,7 @@ between_both p q = record {
   nodes = q.nodes ∙ p.nodes;
   types = λ i k. q.types i k ∙ p.types i k;
   noted = λ i k h. q.noted i k (p.noted i k h);
+  scopes = λ i k env h. q.scopes i k env (p.scopes i k env h);
   reports = q.reports ∙ p.reports;
   aloud = q.aloud ∙ p.aloud;
   level = q.level ∙ p.level;

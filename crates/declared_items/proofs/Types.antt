@@ -33,6 +33,7 @@ use Rattle.operand_laws.specs.Operands.{number_of}
 use Rattle.type_expressions.specs.Untyped.{Untyped}
 use Rattle.typing_rows.specs.Settled.{Fixes, Before}
 use Rattle.typing_rows.proofs.Noted.{still_noted}
+use Rattle.binding_rows.proofs.ItemKinds.{still_scoped}
 use Rattle.declared_rows.specs.Assignments.{Assignment, Assigned, Denotes}
 use Rattle.binding_rows.specs.Outside.{Outside}
 use Rattle.first_laws.specs.Built.{HasPath}
@@ -138,7 +139,7 @@ module _ (b d : Parts) {G : Letters} {env : List Entry} {E : Choice → Environm
 
   -- no type is recorded for the nodes of the text
   pub none_typed : NoneTyped (sight b) (sight d)
-  none_typed = record { types = untyped.types; noted = still_noted goes }
+  none_typed = record { types = untyped.types; noted = still_noted goes; scopes = still_scoped goes }
 
   -- types alone were made
   pub own_types_made : OnlyTypes (sight b) (sight d)

@@ -20,7 +20,7 @@ use Rattle.typing_conditions.specs.Assumptions.{SchemeFits}
 use Rattle.typing_conditions.specs.Standing.{IsIn}
 use Rattle.typing_conditions.specs.Declared.{DeclaredAs, ExceptionAs}
 use Rattle.typing_conditions.specs.Sights.{Sight, Report, Letters, SameAt}
-use Rattle.typing_conditions.specs.Judging.{Judgement, judgements, Follows, FallsShort, Meets}
+use Rattle.typing_conditions.specs.Judging.{Judgement, judgements, Follows, FallsShort, AnySeen, Meets}
 use Rattle.typing_conditions.specs.Carrying.{Asks}
 use Rattle.typing_conditions.proofs.Adequate.{never_short}
 use Rattle.typing_conditions.proofs.Carried.{Decides}
@@ -83,7 +83,7 @@ module _ {a b : Sight} {G : Letters} {E : Choice → Environment} (on : OnlyType
       refines = on.refines;
       bounds = λ v h. let (K, own_k) = own_of b.nodes on.sound in let (o, e) = bound_cell a.nodes v h in bound_there b.nodes v (Var bound_level o) ((on.refines K own_k).bounds v o e) refl;
       recorded = λ i p m e. on.types i p ∙ e;
-      keeps = record { noted = on.noted; same = λ i p h. on.types i p; recorded = λ i p m e. on.types i p ∙ e };
+      keeps = record { noted = on.noted; scopes = on.scopes; same = λ i p h. on.types i p; recorded = λ i p m e. on.types i p ∙ e };
       given = λ V ch h. h;
       inside = λ i. record { recorded = λ j p m e. (let lt = i.recorded j p m (sym (on.types j p) ∙ e) in let le = longer in omega arith); given = nodes_in G a.nodes b.nodes longer i.given };
       aloud = aloud;
@@ -112,7 +112,7 @@ module _ {a b : Sight} {G : Letters} {E : Choice → Environment} (on : OnlyType
       told = told;
       reports = reports;
       counted = settled.counted;
-      sound = λ V c l. subst (λ cs. Meets c.kept cs judged told) (same c) (settled.sound (into c) (later V c l.env (fits_loosely b.nodes V l.reads.fits) l.agrees) l.kept l.left_too.0.fixed);
+      sound = λ V c l. subst (λ cs. Meets AnySeen c.kept cs judged told) (same c) (settled.sound (into c) (later V c l.env (fits_loosely b.nodes V l.reads.fits) l.agrees) l.kept l.left_too.0.fixed);
       follows = λ V c l. subst (λ cs. Follows c.kept cs judged) (same c) (settled.follows (into c) (later V c l.env (fits_loosely b.nodes V l.reads.fits) l.agrees) l.left_too.0.fixed);
       complete = λ V c e h. elim (settled.complete (into c) (earlier V c e) (subst (AllHold c.kept) (sym (same c)) h)) [
         | inl goes ↦ inl (further V c e (ap (judgements c.kept) (sym (same c)) ∙ goes.0) (goes_on V e.fits))

@@ -6,7 +6,6 @@ use Rattle.tree_model.specs.Rows.{Row, tvar_row, tcon_row, tparen_row, tapp_row,
 use Rattle.tree_model.specs.Slots.{is_operand}
 use Rattle.tree_model.specs.Trees.{Place, Tree}
 use Rattle.syntax_tree.specs.declared.rows.RowName.TheVariants as name
-use Rattle.syntax_tree.specs.Names as names
 use Rattle.syntax_tree.specs.View.{node_view, place_of}
 use Rattle.syntax_tree.specs.declared.tree.Node.{Node, out-Node}
 use Rattle.row_parts.specs.Numbered.{Numbered, operands_in, all_operands, filled_in, first_of, token_in, path_in}

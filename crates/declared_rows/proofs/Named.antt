@@ -12,7 +12,7 @@ use Rattle.signature_model.specs.Entries.{Entry as Named, Referent, kind_of as k
 use Rattle.signature_model.specs.Changes.{argument}
 use Rattle.signature_model.specs.Matching.{used}
 use Rattle.signature_model.specs.Lookups.{FoundAmong, an_entry, a_hole, nothing, lookup}
-use Rattle.typing_model.specs.Demands.{site, type_word, same, arity}
+use Rattle.typing_model.specs.Demands.{site, type_word, same}
 use Rattle.typing_model.specs.Contexts.{Context, type_at, unresolved, filled_at}
 use Rattle.typing_model.specs.Parts as parts
 use Rattle.typing_model.specs.Names.{names_of, referent_of, then_by, declaration_in}
@@ -22,8 +22,6 @@ use Rattle.env_table.specs.declared.entries.Declaration.{Declaration}
 use Rattle.env_table.specs.declared.entries.Entry.{Entry}
 use Rattle.env_table.specs.declared.entries.Kind.TheVariants as kind
 use Rattle.env_table.specs.declared.entries.What.{What}
-use Rattle.env_table.specs.declared.entries.What as whats
-use Rattle.env_table.specs.declared.entries.What.TheVariants as what
 use Rattle.env_table.specs.Views.{kind_of}
 use Rattle.typing_state.specs.declared.parts.Parts.{Parts}
 use Rattle.typing_state.specs.declared.demands.Verdict.TheVariants.{Kept, Reported}
@@ -37,7 +35,6 @@ use Rattle.typing_conditions.specs.Frames.{Frame}
 use Rattle.typing_conditions.proofs.Equals.{judged_as}
 use Rattle.typing_steps.specs.States.{is_aloud, sight}
 use Rattle.typing_steps.specs.Demands.{is_found_here}
-use Rattle.typing_steps.specs.Demands as verdicts
 use Rattle.typing_steps.proofs.Valued.{found_of_kind}
 use Rattle.typing_steps.proofs.Constructing.{hole_none}
 use Rattle.typing_rows.specs.Declaring.{declared_in}

@@ -163,6 +163,6 @@ same_asked env text e kept ch other = items_same (record { first = outermost env
 pub asks_alike : (env : Environment) (text : List Tree) → has_lets_alone text ≡ true → (kept : Site → Bool) (ch other : Choice) → judgements kept (conditions_of env text kept ch) ≡ judgements kept (conditions_of env text kept other)
 asks_alike env text e kept ch other = judged_same (same_asked env text e kept ch other) kept
 
--- Nor do the places and kinds of those that aren't kept.
+-- Nor do the places and kinds of those that aren't kept, and the messages of those on names.
 pub refused_alike : (env : Environment) (text : List Tree) → has_lets_alone text ≡ true → (kept : Site → Bool) (ch other : Choice) → refused_of kept (conditions_of env text kept ch) ≡ refused_of kept (conditions_of env text kept other)
 refused_alike env text e kept ch other = refused_same (same_asked env text e kept ch other) kept

@@ -487,7 +487,7 @@ operation_missing a b d env n at t os m carried is none given typed goes any =
 
 -- a minus over a numeral with a point
 pub minus_float : (a d : Parts) (env : List Entry) (n : ℕ) (at : Place) (t : Tree) (part : Operand) (u : NodeRef) → IsCarried (numbered n at (inner t)) → form_of (row_at t) ≡ form.Minus → operand_view part ≡ filled_in n t 1 → is_float_at (operand_view part).part ≡ true →
-    (is_aloud a.telling ≡ true → Records (sight a) (sight d) part.number a.constants.float.0) → u ≡ a.constants.float → TypesRow a d env (λ c. (row_expression a.item n at t).typed c) (number_of a.item n) u.0
+    (is_aloud a.telling ≡ true → Records (sight a) (sight d) part.number a.constants.float.0 env) → u ≡ a.constants.float → TypesRow a d env (λ c. (row_expression a.item n at t).typed c) (number_of a.item n) u.0
 minus_float a d env n at t part u carried is here point records same =
     let there = float_there a.item (filled_in n t 1) (ap (λ o. is_float_at o.part) (sym here) ∙ point) in
     subst (λ x. TypesRow a d env (λ c. (row_expression a.item n at t).typed c) (number_of a.item n) x.0) (sym same)
@@ -527,7 +527,7 @@ later_carried x os all split h = All-tail IsCarried (operand_view x) (map operan
 
 -- a constructor with its first argument, which is recorded
 pub head_row : (a b d f : Parts) (env : List Entry) (n number : ℕ) (p : parts.Written) (x : Operand) (found : Construction) (h : Head) → TypesConstructor a b env p 1 found.known found.built.0 (option_map (λ (m : NodeRef). m.0) found.argument) → Goes a b →
-    TypesAsIf b d env (expression_of b.item (operand_view x)) (option_map (λ (m : NodeRef). m.0) found.argument) → Goes b d → (is_aloud d.telling ≡ true → Records (sight d) (sight f) number h.ty.0) → (h.ty ≡ found.built) × (h.known ≡ found.known) →
+    TypesAsIf b d env (expression_of b.item (operand_view x)) (option_map (λ (m : NodeRef). m.0) found.argument) → Goes b d → (is_aloud d.telling ≡ true → Records (sight d) (sight f) number h.ty.0 env) → (h.ty ≡ found.built) × (h.known ≡ found.known) →
     TypesHead a f env n (number_of a.item number) p h.known (expression_of a.item (operand_view x)) h.ty.0
 head_row a b d f env n number p x found h built goes argued goes' records same =
     let e = expression_of a.item (operand_view x) in
@@ -536,7 +536,7 @@ head_row a b d f env n number p x found h built goes argued goes' records same =
     subst (λ v. TypesHead a f env n k p v e h.ty.0) (sym same.1)
     (subst (λ m. TypesHead a f env n k p found.known e m.0) (sym same.0)
     (head_typed a b d f env n k number p.qualifiers p.last found.known e found.built.0 argument built goes (subst (λ i. TypesAsIf b d env (expression_of i (operand_view x)) argument) goes.item argued) goes'
-    (ap (λ i. number_of i number) (goes'.item ∙ goes.item)) (subst (λ m. is_aloud d.telling ≡ true → Records (sight d) (sight f) number m.0) same.0 records)))
+    (ap (λ i. number_of i number) (goes'.item ∙ goes.item)) (subst (λ m. is_aloud d.telling ≡ true → Records (sight d) (sight f) number m.0 env) same.0 records)))
 
 -- the arguments after the first one, where the constructor is known
 pub known_later : (a b : Parts) (env : List Entry) (at : Place) (es : List Expression) (head : Head) (ty u : NodeRef) → head.known ≡ true → u ≡ ty → TypesGiven a b env at es head.ty.0 ty.0 → TypesLater a b env head.known at es head.ty.0 u.0

@@ -42,7 +42,8 @@ use Rattle.use_typing.specs.Paths.{labels_of}
 use Rattle.use_typing.proofs.Recording.{named_among}
 use Rattle.record_steps.specs.Named.{labels_here}
 use Rattle.operand_laws.specs.Operands.{number_of}
-use Rattle.record_steps.proofs.Noted.{untyped_node}
+use Rattle.record_steps.specs.Recording.{NotesNode}
+use Rattle.record_steps.proofs.Noted.{untyped_scope, untyped_node}
 use Rattle.record_rows.specs.Fields.{RecordHere}
 use Rattle.record_rows.specs.Operands.{labels_at}
 use Rattle.record_rows.specs.Completing.{absent_here, AsksAbsent, AsksComplete, Completes}
@@ -82,9 +83,9 @@ loose_begun (Ok x) (inner t) a b d at refused notes = refused_then a b d at refu
 loose_begun (Ok x) (missing q) a b d at nothing notes = λ F scope G. carried_trans (nothing F scope G) (notes_ask b d notes F scope G)
 
 -- a field whose label is missing
-pub pun_missing : (r : Result Unit AllocError) (o : Option (Bor Token)) (a b : Parts) (env : List Entry) (number k : ℕ) (wanted : Option NodeRef) → o ≡ None → OnOk r (NotedNameless a b number env None) → OnlyIndex a b → OnOk r (PunsValue (token_view o) a b env k wanted)
-pun_missing (Err e) o a b env number k wanted none noted rest = tt
-pun_missing (Ok x) o a b env number k wanted none noted rest = subst (λ q. PunsValue (token_view q) a b env k wanted) (sym none) (notes_ask a b (plain_notes a b number env noted rest))
+pub pun_missing : (r : Result Unit AllocError) (o : Option (Bor Token)) (a b : Parts) (env : List Entry) (number k : ℕ) (wanted : Option NodeRef) → number_of a.item number ≡ k → o ≡ None → OnOk r (NotedNameless a b number env None) → OnlyIndex a b → OnOk r (PunsValue (token_view o) a b env k wanted)
+pun_missing (Err e) o a b env number k wanted is none noted rest = tt
+pun_missing (Ok x) o a b env number k wanted is none (names, empty, noted) rest = subst (λ q. PunsValue (token_view q) a b env k wanted) (sym none) (untyped_scope a b k number (record { env = env; ty = None; names = names }) refl noted rest is)
 
 -- one whose label is there
 pub pun_there : (r : Result Unit AllocError) (o : Option (Bor Token)) (t : Bor Token) (a b : Parts) (env : List Entry) (k : ℕ) (wanted : Option NodeRef) → o ≡ Some t → OnOk r (PunsLabel a b env k (tok_of t.now) wanted) → OnOk r (PunsValue (token_view o) a b env k wanted)
@@ -92,10 +93,10 @@ pun_there (Err e) o t a b env k wanted some puns = tt
 pun_there (Ok x) o t a b env k wanted some puns = subst (λ q. PunsValue (token_view q) a b env k wanted) (sym some) puns
 
 -- the value of its name, and the record of its node
-pub pun_noted : (r : Result Unit AllocError) (a b d : Parts) (env : List Entry) (number k : ℕ) (t : Tok) (wanted : Option NodeRef) (seen : Seen) → seen.ty ≡ None → number_of b.item number ≡ k → TakesName a b env t wanted → OnOk r (Noted b.telling b d number seen) → OnlyIndex b d → OnOk r (PunsLabel a d env k t wanted)
-pun_noted (Err e) a b d env number k t wanted seen none is x noted rest = tt
-pun_noted (Ok u) a b d env number k t wanted seen none is x noted rest =
-    record { used = x.used; asked = b; node = x.node; typed = x.typed k 1; goes = x.goes; equal = x.equal; noted = untyped_node b d k number seen none noted rest is }
+pub pun_noted : (r : Result Unit AllocError) (a b d : Parts) (env : List Entry) (number k : ℕ) (t : Tok) (wanted : Option NodeRef) (seen : Seen) → seen.ty ≡ None → seen.env ≡ env → number_of b.item number ≡ k → TakesName a b env t wanted → OnOk r (Noted b.telling b d number seen) → OnlyIndex b d → OnOk r (PunsLabel a d env k t wanted)
+pun_noted (Err e) a b d env number k t wanted seen none in_scope is x noted rest = tt
+pun_noted (Ok u) a b d env number k t wanted seen none in_scope is x noted rest =
+    record { used = x.used; asked = b; node = x.node; typed = x.typed k 1; goes = x.goes; equal = x.equal; noted = subst (NotesNode b d k) in_scope (untyped_node b d k number seen none noted rest is) }
 
 -- the type of a record
 pub record_given : (found : RecordType) (a b : Parts) (ty : NodeRef) → GivenOrNew (node_of found) a b ty → (node_of found ≡ None → TypesAny a b ty.0) → GivesRecord (here_of found) a b ty.0

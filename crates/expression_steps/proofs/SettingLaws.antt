@@ -109,7 +109,7 @@ module _ (c : Context) (k : ℕ) where
 -- a field that is set, as the code types it
 pub field_set : (a b d f : Parts) (env : List Entry) (n : ℕ) (at : Place) (t : Tree) (os : List Operand) (ms : List ℕ) (ty : ℕ) → IsCarried (numbered n at (inner t)) → row_at t ≡ field_row → map operand_view os ≡ all_operands n t →
     (All IsCarried (map operand_view os) → TypesParts a b env field_row (expressions_of a.item (map operand_view os)) ms) → Goes a b → EndsSettable b d env (path_of (path_in t 2 3)) (expressions_of b.item (map operand_view os)) ms ty → Goes b d →
-    (is_aloud d.telling ≡ true → Records (sight d) (sight f) n ty) → TypesSettable a f env (expression_of a.item (numbered n at (inner t))) ty
+    (is_aloud d.telling ≡ true → Records (sight d) (sight f) n ty env) → TypesSettable a f env (expression_of a.item (numbered n at (inner t))) ty
 field_set a b d f env n at t os ms ty carried row given typed goes ends goes' noted =
     field_settable a b d f env n at t ms ty carried.formed (rows_same t ∙ row)
     (subst (λ qs. TypesParts a b env field_row (expressions_of a.item qs) ms) given (typed (subst (All IsCarried) (sym given) (all_carried n at t (λ s. ap (λ r. sort_in r s) (rows_same t ∙ row)) carried)))) goes

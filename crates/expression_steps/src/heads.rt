@@ -30,7 +30,7 @@ pub fn note_head(
     found: Construction,
     env: &Env,
 ) -> Result<Head, NoMemory>
-    ensures carries { IfOk result (λ h. is_aloud at.old.telling ≡ true → Records (sight at.old) (sight at.new) number h.ty.0) }
+    ensures carries { IfOk result (λ h. is_aloud at.old.telling ≡ true → Records (sight at.old) (sight at.new) number h.ty.0 env.now) }
     ensures head { IfOk result (λ h. (h.ty ≡ found.built) × (h.known ≡ found.known)) }
     ensures goes { Goes at.old at.new }
 {

@@ -107,7 +107,7 @@ fn is_point(token: Option<&Token>) -> bool
 
 /// A numeral with a point under a minus, by its number.
 pub fn negative_float(at: &mut Parts, number: u32, env: &Env) -> Result<Used, NoMemory>
-    ensures carries { IfOk result (λ u. is_aloud at.old.telling ≡ true → Records (sight at.old) (sight at.new) number at.old.constants.float.0) }
+    ensures carries { IfOk result (λ u. is_aloud at.old.telling ≡ true → Records (sight at.old) (sight at.new) number at.old.constants.float.0 env.now) }
     ensures ty { IfOk result (λ u. u.ty ≡ at.old.constants.float) }
     ensures goes { Goes at.old at.new }
 {

@@ -70,6 +70,7 @@ module _ {a b : Parts} {which : BuiltIn} {d : Declaration} (h : DeclaresBuiltIn 
     level = h.rest.level;
     types = λ i p. ap (λ x. type_in (seen_at x i p)) h.rest.index;
     noted = λ i p k. ap (λ x. is_noted (seen_at x i p)) h.rest.index ∙ k;
+    scopes = λ i p env k. ap (λ x. (sight (record a { index = x })).scopes i p) h.rest.index ∙ k;
     refines = λ K own. refines_made a.store.nodes b.store.nodes K own grows;
     reads = λ V reads. reads_grown a.store.nodes b.store.nodes grows V reads;
   }

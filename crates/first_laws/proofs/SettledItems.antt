@@ -2,7 +2,6 @@
 use Rattle.std.proofs.Common.{◌≡◌, ◌∙◌, inl, inr, ℕ, ◌≤◌, List, [], ◌∷◌, ◌++◌, take, length, Option, None, refl, sym, ap, subst, arith}
 use Rattle.type_model.specs.Types.{Typ}
 use Rattle.type_model.specs.Schemes.{Scheme}
-use Rattle.signature_model.specs.Declarations as rules
 use Rattle.signature_model.specs.Declarations.{Name}
 use Rattle.signature_model.specs.Entries.{Environment}
 use Rattle.signature_model.specs.Matching.{IsKnown}
@@ -21,12 +20,12 @@ use Rattle.typing_conditions.specs.Assumptions.{SchemeFits}
 use Rattle.typing_conditions.specs.Standing.{IsIn}
 use Rattle.typing_conditions.specs.Declared.{DeclaredAs, ExceptionAs}
 use Rattle.typing_conditions.specs.Sights.{Sight, Report, Letters, SameAt}
-use Rattle.typing_conditions.specs.Judging.{Judgement, judgements, Follows, FallsShort, Meets}
+use Rattle.typing_conditions.specs.Judging.{Judgement, judgements, Follows, FallsShort, AnySeen, Meets}
 use Rattle.typing_conditions.specs.Carrying.{Asks}
 use Rattle.typing_conditions.proofs.Adequate.{never_short}
 use Rattle.typing_conditions.proofs.Carried.{Decides}
 use Rattle.typing_conditions.proofs.Environments.{env_map}
-use Rattle.typing_conditions.proofs.Hiding.{copy_itself, settles_none}
+use Rattle.typing_conditions.proofs.Hiding.{keeps_as, copy_itself, settles_none}
 use Rattle.typing_conditions.proofs.Meaning.{nodes_in, given_same}
 use Rattle.typing_conditions.proofs.Own.{own_of}
 use Rattle.typing_steps.specs.Typing.{as_declared}
@@ -80,7 +79,7 @@ module _ {a b : Sight} {G : Letters} {env : List Entry} {E : Choice → Environm
       refines = on.refines;
       bounds = λ v h. let (K, own_k) = own_of b.nodes on.sound in let (o, e) = bound_cell a.nodes v h in bound_there b.nodes v (Var bound_level o) ((on.refines K own_k).bounds v o e) refl;
       recorded = λ i p m e. on.types i p ∙ e;
-      keeps = record { noted = on.noted; same = λ i p h. on.types i p; recorded = λ i p m e. on.types i p ∙ e };
+      keeps = keeps_as on.noted on.scopes on.types;
       given = λ V ch h. h;
       inside = λ i. record { recorded = λ j p m e. (let lt = i.recorded j p m (sym (on.types j p) ∙ e) in let le = longer in omega arith); given = nodes_in G a.nodes b.nodes longer i.given };
       aloud = aloud;
@@ -113,7 +112,7 @@ module _ {a b : Sight} {G : Letters} {env : List Entry} {E : Choice → Environm
       told = told;
       reports = reports;
       counted = settled.counted;
-      sound = λ V c l. subst (λ cs. Meets c.kept cs judged told) (same c) (settled.sound (into c) (stands_behind V c l.env (loose_before V (fits_loosely b.nodes V l.reads.fits)) (agrees_before on l.agrees)) l.kept l.left_too.0.fixed);
+      sound = λ V c l. subst (λ cs. Meets AnySeen c.kept cs judged told) (same c) (settled.sound (into c) (stands_behind V c l.env (loose_before V (fits_loosely b.nodes V l.reads.fits)) (agrees_before on l.agrees)) l.kept l.left_too.0.fixed);
       follows = λ V c l. subst (λ cs. Follows c.kept cs judged) (same c) (settled.follows (into c) (stands_behind V c l.env (loose_before V (fits_loosely b.nodes V l.reads.fits)) (agrees_before on l.agrees)) l.left_too.0.fixed);
       complete = λ V c e h. elim (settled.complete (into c) (stands_behind V c e.env (fits_loosely a.nodes V e.fits) e.agrees) (subst (AllHold c.kept) (sym (same c)) h)) [
         | inl goes ↦ inl (further V c e (ap (judgements c.kept) (sym (same c)) ∙ goes.0) (goes_on V e.fits))

@@ -93,6 +93,7 @@ module _ {a b : Sight} (c : Sight) {G : Letters} {env : List Entry} {E : Choice 
     level = level;
     types = types.types;
     noted = types.noted;
+    scopes = types.scopes;
     refines = λ K own_c. refines_declared is_declaring x.assigns closes opens K own_c;
     reads = λ V h. reads_declared is_declaring x.assigns closes opens (λ W g. subst (λ ns. IsReading ns W) from (x.reads W g)) V h;
   }

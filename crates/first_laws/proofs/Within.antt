@@ -1,7 +1,6 @@
 -- Names that were added go out of scope again, as at the end of a signature: their roots stay, and the names of before are in scope, with others that stand for what these roots are.
 use Rattle.std.proofs.Common.{◌≡◌, ◌∙◌, ℕ, ◌<◌, List, [], ◌++◌, length, inl, inr, refl, sym, ap, subst, append_assoc, arith}
 use Rattle.type_model.specs.Types.{occurs}
-use Rattle.signature_model.specs.Declarations as rules
 use Rattle.signature_model.specs.Entries.{Environment}
 use Rattle.typing_laws.proofs.Bools.{no_yes}
 use Rattle.typing_model.specs.Contexts.{Choice}
@@ -40,6 +39,7 @@ types_both {a} {b} {c} one two = record {
   level = two.level ∙ one.level;
   types = λ i p. two.types i p ∙ one.types i p;
   noted = λ i p h. two.noted i p (one.noted i p h);
+  scopes = λ i p env h. two.scopes i p env (one.scopes i p env h);
   refines = λ K own. let mid = own_of b.nodes one.sound in refines_then a.nodes b.nodes c.nodes mid.0 K mid.1 own (one.refines mid.0 mid.1) (two.refines K own);
   reads = λ V h. one.reads V (two.reads V h);
 }
@@ -66,7 +66,7 @@ entries_on {a} {b} {at = at} g entries =
 -- where nothing was added
 pub grows_none : {a : Sight} {G : Letters} {env : List Entry} {E : Choice → Environment} (at : Outside as_declared a G env E) → Grows at at [] []
 grows_none {a} at = record {
-  on = record { sound = at.sound; level = refl; types = λ i p. refl; noted = λ i p h. h; refines = λ K own. refines_none a.nodes K own; reads = λ V h. h };
+  on = record { sound = at.sound; level = refl; types = λ i p. refl; noted = λ i p h. h; scopes = λ i p env h. h; refines = λ K own. refines_none a.nodes K own; reads = λ V h. h };
   new_roots = [];
   roots = refl;
   same = λ v lt. refl;

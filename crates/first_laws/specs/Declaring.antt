@@ -1,6 +1,6 @@
 -- What is declared from one state between items to a later one: types with their constructors and labels, exceptions, and values that are specified.
 use Rattle.std.specs.Prelude.{◌≡◌, ℕ, ◌<◌, true, List, ◌++◌, length, slice_get, Some}
-use Rattle.type_model.specs.Types.{Typ, Typ as type, Typs as types}
+use Rattle.type_model.specs.Types.{Typ}
 use Rattle.type_model.specs.Schemes.{Scheme}
 use Rattle.signature_model.specs.Entries.{Environment}
 use Rattle.signature_model.specs.Matching.{IsKnown}
@@ -12,21 +12,23 @@ use Rattle.env_table.specs.declared.entries.Entry.{Entry}
 use Rattle.typing_conditions.specs.Locals.{IsOwn, stands_in_any, Refines}
 use Rattle.typing_conditions.specs.Environments.{EnvAs}
 use Rattle.typing_conditions.specs.Declared.{UnknownApart, RootAs, DeclaredAs, ExceptionAs}
-use Rattle.typing_conditions.specs.Sights.{Sight, Letters}
+use Rattle.typing_conditions.specs.Sights.{AreScopesIn, Sight, Letters}
 use Rattle.typing_steps.specs.Typing.{as_declared}
 use Rattle.binding_rows.specs.Outside.{AreOf, Outside}
 
--- no type is recorded for the nodes of the text, and what was noted is so still
+-- no type is recorded for the nodes of the text, and what was noted is so still, with the same names in scope
 pub record NoneTyped (a b : Sight) : Type 0 where
   pub types : (i p : ℕ) → b.types i p ≡ a.types i p
   pub noted : (i p : ℕ) → a.noted i p ≡ true → b.noted i p ≡ true
+  pub scopes : AreScopesIn a.scopes b.scopes
 
--- types were made, no type was recorded for the nodes of the text, and what was noted is so still
+-- types were made, no type was recorded for the nodes of the text, and what was noted is so still, with the same names in scope
 pub record OnlyTypes (a b : Sight) : Type 0 where
   pub sound : IsSound b.nodes
   pub level : b.level ≡ a.level
   pub types : (i p : ℕ) → b.types i p ≡ a.types i p
   pub noted : (i p : ℕ) → a.noted i p ≡ true → b.noted i p ≡ true
+  pub scopes : AreScopesIn a.scopes b.scopes
   pub refines : (K : Types) → IsOwn b.nodes K → Refines a.nodes b.nodes K
   pub reads : (V : Types) → IsReading b.nodes V → IsReading a.nodes V
 

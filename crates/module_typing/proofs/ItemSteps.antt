@@ -21,8 +21,7 @@ use Rattle.typing_steps.specs.States.{is_aloud}
 use Rattle.typing_steps.specs.Typing.{as_declared}
 use Rattle.typing_steps.proofs.Starting.{constants_kept}
 use Rattle.core_typing.specs.Items.{IsCarriedPart, IsCarriedItemOperand, IsItemNode, IsExceptionNode, ItemsDone, GivesLet, GivesException, item_at, items_at}
-use Rattle.binding_rows.proofs.ItemOrders.{weaker}
-use Rattle.core_typing.proofs.ItemLaws.{done_none, done_then, let_done, idle_given, exception_done, noted_between, noted_on}
+use Rattle.core_typing.proofs.ItemLaws.{done_none, done_then, let_done, idle_given, exception_done, plain_scope, noted_between, noted_on, weaker}
 use Rattle.module_steps.specs.declared.scenes.Scene.{Scene}
 use Rattle.module_steps.specs.Scenes.{has_name, SameNames}
 use Rattle.signature_typing.specs.Specifications.{IsGiven}
@@ -47,7 +46,7 @@ break_given (Err e) a b s x nd some row noted rest goes = tt
 break_given (Ok v) a b s x nd some row noted rest goes = λ G E seen carried aloud at constants older standing.
     subst (λ p. IsGiven ((at.known ≡ true) × KeepsKnown p) E (item_at a.item (numbered x.number (place_of x.span) p)) seen a b G s) (sym (there x nd some)) (record {
       names = seen;
-      done = idle_given a b s.env x.number (place_of x.span) (node_view nd.now) G E seen (break_there nd.now row) (noted_between a b x.number s.env noted rest) at (constants_kept a b goes constants) (noted_on at.older older goes) (λ k. k.0);
+      done = idle_given a b s.env x.number (place_of x.span) (node_view nd.now) G E seen (break_there nd.now row) (plain_scope a b x.number s.env aloud noted) (noted_between a b x.number s.env noted rest) at (constants_kept a b goes constants) (noted_on at.older older goes) (λ k. k.0);
       standing = standing;
     })
 
@@ -120,7 +119,7 @@ items_start a env s all same none G E carried aloud at constants older = record 
   items = [];
   given = record {
     names = no_names;
-    done = subst (λ es. ItemsDone as_declared ⊥ E [] no_names no_names a a G es) (sym same) (done_none no_names (record { nodes = refl; types = λ i p. refl; noted = λ i p h. h; reports = refl; aloud = refl; level = refl; fixed = refl }) at constants older (λ k. absurd k));
+    done = subst (λ es. ItemsDone as_declared ⊥ E [] no_names no_names a a G es) (sym same) (done_none no_names (record { nodes = refl; types = λ i p. refl; noted = λ i p h. h; scopes = λ i p env h. h; reports = refl; aloud = refl; level = refl; fixed = refl }) at constants older (λ k. absurd k));
     standing = record { types = λ n. none kind.TypeName n; modules = λ n. none kind.Module n; module_types = λ n. none kind.ModuleType n };
   };
   splits = refl;

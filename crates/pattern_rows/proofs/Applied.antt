@@ -38,7 +38,7 @@ use Rattle.typing_conditions.proofs.Nodes.{same_made}
 use Rattle.typing_conditions.proofs.Recording.{ends_own, records_stay}
 use Rattle.typing_conditions.proofs.Branching.{carried_after, after_hides}
 use Rattle.typing_conditions.proofs.Stays.{stays_trans, stays_closed, stays_opened}
-use Rattle.typing_conditions.proofs.Surrounding.{surrounds_on}
+use Rattle.typing_conditions.proofs.Surrounding.{surrounds_on, surrounds_sees}
 use Rattle.typing_steps.specs.States.{is_aloud, sight}
 use Rattle.typing_steps.specs.Typing.{as_declared, TypesAny, AsksEqualIf}
 use Rattle.typing_steps.specs.Building.{used_by, building_in, construction_asks, TakesAs, TypesConstructor}
@@ -129,7 +129,7 @@ argument_known b d env p seen added opens n head (Some t) None aloud names has a
 
 -- A constructor with its argument, as a row: its use, the argument, and the record of its node. The letters of its type are those of its own node, and are open until the row's is recorded.
 pub constructor_typed : (a b d f : Parts) (env : List Entry) (n head number : ℕ) (at : Place) (qs : List Tok) (last : Option Tok) (known : Bool) (p : Pattern) (seen : List Name) (added : List Bind) (opens : Letters) (m : ℕ) (argument : Option ℕ) →
-    TypesConstructor a b env (record { qualifiers = qs; last = last }) 1 known m argument → Goes a b → MatchesAsIf b d env p seen added opens argument → Goes b d → number_in d.item number ≡ head → (is_aloud d.telling ≡ true → Records (sight d) (sight f) number m) →
+    TypesConstructor a b env (record { qualifiers = qs; last = last }) 1 known m argument → Goes a b → MatchesAsIf b d env p seen added opens argument → Goes b d → number_in d.item number ≡ head → (is_aloud d.telling ≡ true → Records (sight d) (sight f) number m env) →
     MatchesRow a f env (with_constructor n at (record { qualifiers = qs; last = last }) head p) seen added n m
 constructor_typed a b d f env n head number at qs last true p seen added opens m argument typed goes argued goes' place records = record {
   opens = opens;
@@ -149,19 +149,19 @@ constructor_typed a b d f env n head number at qs last true p seen added opens m
       let of_row : Means F (sight d) own_letters (λ ch. ch.type_at n) m = record { open_node = y.open_node; is = λ V ch loose g. g.given.1.0.is } in
       let noted = records (ap is_aloud goes'.telling ∙ loud) in
       let open_rows : AreDone (sight d) behind.hidden opens = subst (λ xs. AreDone (sight d) xs opens) (sym (after_hides k.carried _ z)) (done_last k.carried z (done_then x.carried ends x.done)) in
-      let here = own_recorded head place behind of_head noted in
+      let here = own_recorded head place behind of_head noted (surrounds_sees names) in
       let among : IsAmong k.letters own_letters = record {
         given = λ V ch h. given_left V ch k.letters G (given_right V ch opens (k.letters ++ G) h.1.1);
         inside = λ nodes h. nodes_left k.letters G nodes (nodes_right opens (k.letters ++ G) nodes h.1.1);
       } in
-      let sure = own_sure k.letters head place behind of_head noted (owns_row k.of_row) in
+      let sure = own_sure k.letters head place behind of_head noted (surrounds_sees names) (owns_row k.of_row) in
       let copied = carried_copied k.letters among here sure in
       let last_as = λ (c : Context). constructor_splits c n head p seen qs last in
       let whole : CarriedTo F scope asks (sight a) G (sight f) own_letters (λ ch. ch.type_at n) m = record { carried = carried_as last_as copied; means = means_on (records_stay noted y.open_node.inside) of_row } in
       let same : own_letters ≡ ((own head, m) ∷ (own n, m) ∷ (opens ++ k.letters)) ++ G = ap (λ H. (own head, m) ∷ (own n, m) ∷ H) (sym (append_assoc opens k.letters G)) in
       let typed_so = subst (λ H. CarriedTo F scope asks (sight a) G (sight f) H (λ ch. ch.type_at n) m) same whole in
       let hides : typed_so.carried.hidden ≡ copied.hidden = grouped_to_hides same whole ∙ as_hides last_as copied in
-      let opens_there : AreDone (sight f) copied.hidden opens = copied_more k.letters among here sure (done_recorded head place behind of_head noted open_rows) in
+      let opens_there : AreDone (sight f) copied.hidden opens = copied_more k.letters among here sure (done_recorded head place behind of_head noted (surrounds_sees names) open_rows) in
       let letters_there : AreDone (sight f) copied.hidden k.letters = copied_done k.letters among here sure k.of_row.sure in
       record {
         row = record {
@@ -200,13 +200,13 @@ constructor_typed a b d f env n head number at qs last false p seen added opens 
       let open_rows : AreDone (sight d) behind.hidden opens =
       subst (λ xs. AreDone (sight d) xs opens) (sym (after_hides k.typed.carried _ z)) (done_last k.typed.carried z (done_then alone ends (done_as (λ c. append-nil (p.matched c seen)) x.carried x.done))) in
       let has_head = means_on first.stays y in
-      let here = own_recorded head place behind has_head noted in
+      let here = own_recorded head place behind has_head noted (surrounds_sees names) in
       let last_as = λ (c : Context). constructor_splits c n head p seen qs last in
       let whole : CarriedTo F scope asks (sight a) G (sight f) own_letters (λ ch. ch.type_at n) m = record { carried = carried_as last_as here; means = means_on (records_stay noted y.open_node.inside) of_row } in
       let same : own_letters ≡ ((own n, m) ∷ (opens ++ (own head, m) ∷ [])) ++ G = ap (λ H. (own n, m) ∷ H) (sym (append_assoc opens ((own head, m) ∷ []) G)) in
       let typed_so = subst (λ H. CarriedTo F scope asks (sight a) G (sight f) H (λ ch. ch.type_at n) m) same whole in
       let hides : typed_so.carried.hidden ≡ here.hidden = grouped_to_hides same whole ∙ as_hides last_as here in
-      let opens_there : AreDone (sight f) here.hidden opens = done_recorded head place behind has_head noted open_rows in
+      let opens_there : AreDone (sight f) here.hidden opens = done_recorded head place behind has_head noted (surrounds_sees names) open_rows in
       record {
         row = record {
           own = (own n, m) ∷ (opens ++ (own head, m) ∷ []);
@@ -229,14 +229,14 @@ applied_by : (n : ℕ) (at : Place) (h p : Pattern) (o : Option Written) → h.c
 applied_by n at h p o e = ap (λ q. papp n at (record h { constructor = q }) p) e
 
 -- a constructor with its argument, which is recorded, before the row is
-pub constructor_applied : (a b d f : Parts) (env : List Entry) (number : ℕ) (w : Written) (q : Pattern) (known : Bool) (ty : NodeRef) (argument : Option ℕ) (recorded : Seen) (names more : List Bind) (seen now : List Name) → recorded.ty ≡ Some ty → TypesConstructor a b env w 1 known ty.0 argument →
+pub constructor_applied : (a b d f : Parts) (env : List Entry) (number : ℕ) (w : Written) (q : Pattern) (known : Bool) (ty : NodeRef) (argument : Option ℕ) (recorded : Seen) (names more : List Bind) (seen now : List Name) → recorded.ty ≡ Some ty → recorded.env ≡ env → TypesConstructor a b env w 1 known ty.0 argument →
     Goes a b → MatchesWanted b d env q names more seen now argument → Goes b d → Noted d.telling d f number recorded → OnlyIndex d f → AppliesConstructor a f env (number_of a.item number) w q names more seen now ty.0
-constructor_applied a b d f env number w q known ty argument recorded names more seen now has_type built goes argued goes' noted rest = λ h node is. record {
+constructor_applied a b d f env number w q known ty argument recorded names more seen now has_type in_scope built goes argued goes' noted rest = λ h node is. record {
   added = argued.added;
   adds = argued.adds;
   typed = λ n at.
       subst (λ r. MatchesRow a f env r seen argued.added n ty.0) (sym (applied_by n at h q (Some w) is))
-      (constructor_typed a b d f env n h.node number at w.qualifiers w.last known q seen argued.added argued.opens ty.0 argument built goes argued.typed goes' (ap (λ i. number_in i number) (goes'.item ∙ goes.item) ∙ sym node) (λ loud. type_noted d f number ty recorded has_type loud noted rest));
+      (constructor_typed a b d f env n h.node number at w.qualifiers w.last known q seen argued.added argued.opens ty.0 argument built goes argued.typed goes' (ap (λ i. number_in i number) (goes'.item ∙ goes.item) ∙ sym node) (λ loud. subst (Records (sight d) (sight f) number ty.0) in_scope (type_noted d f number ty recorded has_type loud noted rest)));
 }
 
 -- one pattern alone

@@ -81,11 +81,11 @@ minus_matches a e env number t ty names seen x row place carried =
     (adds_as _ _ (minus_term a.item number place t row) (adds_none names seen)) x.goes x.noted x.rest
 
 -- A
-pub con_matches : (a b e : Parts) (env : List Entry) (number : ℕ) (t : Tree) (ty : NodeRef) (known : Bool) (argument : Option ℕ) (recorded : Seen) (names : List Bind) (seen : List Name) → recorded.ty ≡ Some ty → TypesConstructor a b env (path_of (path_in t 0 1)) 0 known ty.0 argument → Goes a b →
+pub con_matches : (a b e : Parts) (env : List Entry) (number : ℕ) (t : Tree) (ty : NodeRef) (known : Bool) (argument : Option ℕ) (recorded : Seen) (names : List Bind) (seen : List Name) → recorded.ty ≡ Some ty → recorded.env ≡ env → TypesConstructor a b env (path_of (path_in t 0 1)) 0 known ty.0 argument → Goes a b →
     Noted b.telling b e number recorded → OnlyIndex b e → MatchesNodeOf pcon_row a e env number t names names seen seen ty.0
-con_matches a b e env number t ty known argument recorded names seen has_type typed goes noted rest row place carried =
+con_matches a b e env number t ty known argument recorded names seen has_type in_scope typed goes noted rest row place carried =
     node_matches a e env number place t names names [] seen seen ty.0 (adds_as _ _ (con_term a.item number place t row) (adds_none names seen))
-    (node_matched a b e env number place t ty recorded seen [] has_type (con_row_typed a b env a.item number place t seen known ty.0 argument row typed) goes noted rest)
+    (node_matched a b e env number place t ty recorded seen [] has_type in_scope (con_row_typed a b env a.item number place t seen known ty.0 argument row typed) goes noted rest)
 
 -- x
 pub name_matches : (a b e : Parts) (env : List Entry) (number : ℕ) (t : Tree) (ty : NodeRef) (names more : List Bind) (seen then : List Name) → TypesAny a b ty.0 → Goes a b → BindsNameIf (token_in t 0) b e env number ty names more seen then →
@@ -106,7 +106,7 @@ name_matches a b e env number t ty names more seen then any goes bound row place
     by (Some w) is x =
         let one : List Bind = record { token = w; node = ty; entry = x.entry } ∷ [] in
         node_matches a e env number place t names more one seen then ty.0 (adds_as _ _ (same (Some w) is) x.adds)
-        (node_matched a x.between e env number place t ty x.recorded seen one x.has_type (as_name x.between one (Some w) is (named_row a b x.between env n place w ty x.entry seen any goes x.fresh x.is_entry)) (goes_trans a b x.between goes x.goes) x.noted x.rest)
+        (node_matched a x.between e env number place t ty x.recorded seen one x.has_type x.in_scope (as_name x.between one (Some w) is (named_row a b x.between env n place w ty x.entry seen any goes x.fresh x.is_entry)) (goes_trans a b x.between goes x.goes) x.noted x.rest)
 
 -- p, p
 pub tuple_matches : (a b d e : Parts) (env : List Entry) (number : ℕ) (t : Tree) (ty : NodeRef) (names more : List Bind) (seen then : List Name) (ms : List ℕ) → MatchesOperands a b env (all_operands number t) names more seen then ms → Goes a b →
@@ -215,7 +215,7 @@ as_matches a b d e env number t ty names more last seen then later ms matched go
     by (Some w) is y =
         let one : List Bind = record { token = w; node = ty; entry = y.entry } ∷ [] in
         node_matches a e env number place t names last (all.added ++ one) seen later ty.0 (adds_as _ _ (term (Some w) is) (adds_both adds y.adds))
-        (node_matched a y.between e env number place t ty y.recorded seen (all.added ++ one) y.has_type
+        (node_matched a y.between e env number place t ty y.recorded seen (all.added ++ one) y.has_type y.in_scope
         (as_name y.between (all.added ++ one) (Some w) is (as_typed a b y.between env n place p w ty y.entry seen all.added ms all.typed same.0 goes (subst (λ ns. AsksFresh b y.between w ns) adds.sees y.fresh) y.is_entry))
         (goes_trans a b y.between goes y.goes) y.noted y.rest)
 

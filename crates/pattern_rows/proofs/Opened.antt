@@ -1,20 +1,21 @@
 -- Letters that patterns open, and those that are closed at the end of a row.
-use Rattle.std.proofs.Common.{◌≡◌, ◌∙◌, ◌++◌, ℕ, zero, suc, true, Some, Bool, [], ◌∷◌, inl, inr, sym, ap, subst, append_assoc, refl}
+use Rattle.std.proofs.Common.{◌≡◌, ◌∙◌, ◌++◌, ℕ, zero, suc, true, Some, Bool, List, [], ◌∷◌, inl, inr, sym, ap, subst, append_assoc, refl}
 use Rattle.std.specs.Prelude.{slice_get}
 use mathlib.Core.Path.{subst_refl, path_j}
 use Rattle.type_model.specs.Types.{Typ}
 use Rattle.typing_model.specs.Contexts.{Choice}
+use Rattle.env_table.specs.declared.entries.Entry.{Entry}
 use Rattle.typing_conditions.specs.Sights.{Sight, Key, own, number_in, Letters}
 use Rattle.typing_conditions.specs.Frames.{Frame}
 use Rattle.typing_conditions.specs.Meanings.{Means}
 use Rattle.typing_conditions.specs.Steps.{Records}
-use Rattle.typing_conditions.specs.Carrying.{Asks, Scope, Carried, CarriedTo}
+use Rattle.typing_conditions.specs.Carrying.{Asks, Scope, SeesScope, Carried, CarriedTo}
 use Rattle.typing_conditions.specs.Hiding.{is_doubtful, marked, is_sure, HasTyped, ArePlaced, NoneDoubtful, AreDone, Owns, AreSure, IsAmong}
 use Rattle.typing_conditions.proofs.Judged.{given_left, given_both, nodes_both}
 use Rattle.typing_conditions.proofs.Carried.{carried_trans, done_then, owns_last}
 use Rattle.typing_conditions.proofs.Hiding.{given_marked, nodes_marked, settles_closed, copy_first, copy_second, marked_copy, keeps_same, done_copies, done_on, owns_before, sure_marked}
 use Rattle.typing_conditions.proofs.Keeping.{all_among, among_after}
-use Rattle.typing_conditions.proofs.Recording.{here_now, records_keep}
+use Rattle.typing_conditions.proofs.Recording.{here_now, records_keep, told_at, told_hides}
 use Rattle.typing_steps.specs.Typing.{RowCarried}
 use Rattle.typing_rows.proofs.Own.{own_recorded}
 
@@ -31,8 +32,13 @@ grouped_to_hides {F} {scope} {asks} {a} {b} {G} {type = type} {m = m} same p =
 pub done_grouped : {F : Frame} {scope : Scope} {asks : Asks} {a b : Sight} {G H K ys : Letters} (same : H ≡ K) (p : Carried F scope asks a G b H) → AreDone b p.hidden ys → AreDone b (subst (λ J. Carried F scope asks a G b J) same p).hidden ys
 done_grouped {b = b} {ys = ys} same p h = subst (λ xs. AreDone b xs ys) (sym (grouped_hides same p)) h
 
+-- nor does that a node is told to be treated hide anything more
+pub done_told : {F : Frame} {scope : Scope} {asks : Asks} {a b : Sight} {G H ys : Letters} (n : ℕ) {i p : ℕ} {env : List Entry} (number : n ≡ number_in i p) (it : Carried F scope asks a G b H) (there : b.scopes i p ≡ Some env) (sees : SeesScope F scope a G env) → AreDone b it.hidden ys →
+    AreDone b (told_at n number it there sees).hidden ys
+done_told {b = b} {ys = ys} n number it there sees h = subst (λ xs. AreDone b xs ys) (sym (told_hides n number it there sees)) h
+
 -- the letter for the type of a node that is recorded
-pub recorded_done : {b d : Sight} {n p m : ℕ} {xs : Letters} → number_in b.item p ≡ n → Records b d p m → AreDone d xs ((own n, m) ∷ [])
+pub recorded_done : {b d : Sight} {n p m : ℕ} {env : List Entry} {xs : Letters} → number_in b.item p ≡ n → Records b d p m env → AreDone d xs ((own n, m) ∷ [])
 recorded_done {b} {d} {n} {p} {m} {xs} place r = record { sure = only; each = λ k x e. inl (typed k x e) }
   where
     only : NoneDoubtful ((own n, m) ∷ [])
@@ -44,13 +50,13 @@ recorded_done {b} {d} {n} {p} {m} {xs} place r = record { sure = only; each = λ
     typed (suc k) x e = absurd (cc)
 
 -- what is recorded hides nothing more
-pub recorded_hides : {F : Frame} {scope : Scope} {asks : Asks} {a b d : Sight} {G H : Letters} (n : ℕ) {p m : ℕ} (place : number_in b.item p ≡ n) (it : Carried F scope asks a G b H) (means : Means F b H (λ ch. ch.type_at n) m) (r : Records b d p m) → (own_recorded n place it means r).hidden ≡ it.hidden
+pub recorded_hides : {F : Frame} {scope : Scope} {asks : Asks} {a b d : Sight} {G H : Letters} (n : ℕ) {p m : ℕ} {env : List Entry} (place : number_in b.item p ≡ n) (it : Carried F scope asks a G b H) (means : Means F b H (λ ch. ch.type_at n) m) (r : Records b d p m env) (sees : SeesScope F scope a G env) → (own_recorded n place it means r sees).hidden ≡ it.hidden
 unfolding own_recorded
-recorded_hides n place it means r = refl
+recorded_hides n place it means r sees = refl
 
 -- so the rows of letters are done still
-pub done_recorded : {F : Frame} {scope : Scope} {asks : Asks} {a b d : Sight} {G H ys : Letters} (n : ℕ) {p m : ℕ} (place : number_in b.item p ≡ n) (it : Carried F scope asks a G b H) (means : Means F b H (λ ch. ch.type_at n) m) (r : Records b d p m) → AreDone b it.hidden ys → AreDone d (own_recorded n place it means r).hidden ys
-done_recorded {d = d} {ys = ys} n place it means r h = subst (λ xs. AreDone d xs ys) (sym (recorded_hides n place it means r)) (done_on (records_keep r) (λ x c. c) h)
+pub done_recorded : {F : Frame} {scope : Scope} {asks : Asks} {a b d : Sight} {G H ys : Letters} (n : ℕ) {p m : ℕ} {env : List Entry} (place : number_in b.item p ≡ n) (it : Carried F scope asks a G b H) (means : Means F b H (λ ch. ch.type_at n) m) (r : Records b d p m env) (sees : SeesScope F scope a G env) → AreDone b it.hidden ys → AreDone d (own_recorded n place it means r sees).hidden ys
+done_recorded {d = d} {ys = ys} n place it means r sees h = subst (λ xs. AreDone d xs ys) (sym (recorded_hides n place it means r sees)) (done_on (records_keep r) (λ x c. c) h)
 
 -- Some of the letters that are open are hidden too, and stay open.
 pub carried_copied : {F : Frame} {scope : Scope} {asks : Asks} {a b : Sight} {G H : Letters} (some : Letters) → IsAmong some H → (p : Carried F scope asks a G b H) → (F.known ≡ true → ArePlaced b → AreSure a b p.hidden some) → Carried F scope asks a G b H
@@ -63,8 +69,8 @@ carried_copied {F} {scope} {asks} {a} {b} {G} {H} some among p are_sure = record
   told = p.told;
   reports = p.reports;
   counted = p.counted;
-  sound = λ r V c l. p.sound r V c (record { under = l.under; reads = l.reads; agrees = l.agrees; hidden_too = given_left V c.chosen p.hidden (marked test some) l.hidden_too; named = l.named; unbound = l.unbound; kept = l.kept });
-  follows = λ r V c l. p.follows r V c (record { under = l.under; reads = l.reads; agrees = l.agrees; hidden_too = given_left V c.chosen p.hidden (marked test some) l.hidden_too; named = l.named; unbound = l.unbound; kept = l.kept });
+  sound = λ r V c l. p.sound r V c (record { under = l.under; reads = l.reads; agrees = l.agrees; hidden_too = given_left V c.chosen p.hidden (marked test some) l.hidden_too; named = l.named; unbound = l.unbound; kept = l.kept; scopes = l.scopes; in_the_end = l.in_the_end; types = l.types; types_too = l.types_too });
+  follows = λ r V c l. p.follows r V c (record { under = l.under; reads = l.reads; agrees = l.agrees; hidden_too = given_left V c.chosen p.hidden (marked test some) l.hidden_too; named = l.named; unbound = l.unbound; kept = l.kept; scopes = l.scopes; in_the_end = l.in_the_end; types = l.types; types_too = l.types_too });
   complete = λ named V c e h. elim (p.complete named V c e h) [
     | inl goes ↦ inl (record {
       same = goes.same;

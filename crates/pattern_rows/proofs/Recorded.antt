@@ -21,13 +21,14 @@ use Rattle.typing_conditions.specs.Sights.{Sight, own, Letters, number_in}
 use Rattle.typing_conditions.specs.Frames.{Frame}
 use Rattle.typing_conditions.specs.Steps.{Records}
 use Rattle.typing_conditions.specs.Meanings.{Means}
-use Rattle.typing_conditions.specs.Carrying.{Scope, Carried}
+use Rattle.typing_conditions.specs.Carrying.{Scope, SeesScope, Carried}
 use Rattle.typing_conditions.specs.Hiding.{ArePlaced, AreDone, Owns, IsAmong}
 use Rattle.typing_conditions.proofs.Carried.{carried_trans, carried_as, done_then, done_as, owns_then, owns_as}
 use Rattle.typing_conditions.proofs.Hiding.{keeps_same, done_none, done_on, owns_also}
 use Rattle.typing_conditions.proofs.Keeping.{none_among, among_after, carried_kept, kept_hides}
 use Rattle.typing_conditions.proofs.Framing.{open_on}
 use Rattle.typing_conditions.proofs.Recording.{records_stay, here_now}
+use Rattle.typing_conditions.proofs.Surrounding.{surrounds_sees}
 use Rattle.typing_steps.specs.States.{is_aloud, sight}
 use Rattle.typing_steps.proofs.Rows.{row_any, var_any}
 use Rattle.typing_steps.proofs.Recording.{type_noted, nameless_noted}
@@ -41,20 +42,20 @@ use Rattle.pattern_rows.proofs.Naming.{adds_none}
 use Rattle.pattern_rows.proofs.Opened.{done_recorded}
 
 -- the row of a node, once its type is recorded
-pub row_recorded : {F : Frame} {scope : Scope} {a b d : Sight} {G : Letters} {p : Pattern} {seen : List Name} {added : List Bind} {n number m : ℕ} {opens : Letters} → number_in b.item number ≡ n → p.node ≡ n → RowMatched F scope a G b p seen added n m opens →
-    Records b d number m → MatchedTo F scope a G d (recorded_pattern n p) seen added m opens
-row_recorded {F} {scope} {a} {b} {d} {G} {p} {seen} {added} {n} {number} {m} {opens} place node row r =
+pub row_recorded : {F : Frame} {scope : Scope} {a b d : Sight} {G : Letters} {p : Pattern} {seen : List Name} {added : List Bind} {n number m : ℕ} {opens : Letters} {env : List Entry} → number_in b.item number ≡ n → p.node ≡ n → RowMatched F scope a G b p seen added n m opens →
+    Records b d number m env → SeesScope F scope a G env → MatchedTo F scope a G d (recorded_pattern n p) seen added m opens
+row_recorded {F} {scope} {a} {b} {d} {G} {p} {seen} {added} {n} {number} {m} {opens} place node row r sees =
     let own_letters : Letters = (own n, m) ∷ row.row.own in
     let end = ends_made row.row.typed.means row.row.end in
     let both = carried_trans row.row.typed.carried end in
     let ends = carried_as row.row.all both in
     let of_row : Means F b (own_letters ++ G) (λ ch. ch.type_at n) m = record { open_node = row.row.typed.means.open_node; is = λ V ch loose g. g.given.0.is } in
-    let noted = own_recorded n place ends of_row r in
+    let noted = own_recorded n place ends of_row r sees in
     let among : IsAmong opens own_letters = among_after ((own n, m) ∷ []) row.among in
     let owned : F.known ≡ true → Owns n m b ends.hidden own_letters = λ known. owns_as row.row.all both (owns_also (own n) refl refl (owns_then row.row.typed.carried end (row.row.owns known))) in
-    let sure = λ (known : F.known ≡ true) (placed : ArePlaced d). own_sure own_letters n place ends of_row r (owned known) known placed in
+    let sure = λ (known : F.known ≡ true) (placed : ArePlaced d). own_sure own_letters n place ends of_row r sees (owned known) known placed in
     let whole : Carried F scope (λ c. tell_typed n c ++ p.matched c seen) a G d (opens ++ G) = carried_kept own_letters opens among noted sure in
-    let ready : AreDone d whole.hidden opens = done_on keeps_same (kept_hides own_letters opens among noted sure) (done_recorded n place ends of_row r (done_as row.row.all both (done_then row.row.typed.carried end row.done))) in
+    let ready : AreDone d whole.hidden opens = done_on keeps_same (kept_hides own_letters opens among noted sure) (done_recorded n place ends of_row r sees (done_as row.row.all both (done_then row.row.typed.carried end row.done))) in
     let means : Means F d (opens ++ G) (λ ch. ch.type_at n) m = record {
       open_node = open_on (records_stay {G = opens ++ G} r row.row.typed.means.open_node.inside) row.row.typed.means.open_node;
       is = λ V ch loose g. ap ch.type_at (sym place) ∙ g.recorded b.item number m (here_now r);
@@ -66,22 +67,22 @@ row_recorded {F} {scope} {a} {b} {d} {G} {p} {seen} {added} {n} {number} {m} {op
     }
 
 -- A node that is a pattern: its row, and the record of its type.
-pub node_matched : (a b d : Parts) (env : List Entry) (number : ℕ) (at : Place) (t : Tree) (ty : NodeRef) (noted_as : Seen) (seen : List Name) (added : List Bind) → noted_as.ty ≡ Some ty → MatchesRow a b env (row_pattern a.item number at t) seen added (number_of a.item number) ty.0 →
+pub node_matched : (a b d : Parts) (env : List Entry) (number : ℕ) (at : Place) (t : Tree) (ty : NodeRef) (noted_as : Seen) (seen : List Name) (added : List Bind) → noted_as.ty ≡ Some ty → noted_as.env ≡ env → MatchesRow a b env (row_pattern a.item number at t) seen added (number_of a.item number) ty.0 →
     Goes a b → Noted b.telling b d number noted_as → OnlyIndex b d → MatchesTo a d env (pattern_of a.item (numbered number at (inner t))) seen added ty.0
-node_matched a b d env number at t ty noted_as seen added is row goes noted rest = record {
+node_matched a b d env number at t ty noted_as seen added is in_scope row goes noted rest = record {
   opens = row.opens;
   typed = λ aloud F scope G s.
       let loud : is_aloud b.telling ≡ true = ap is_aloud goes.telling ∙ aloud in
       let here = pattern_by_row a.item number at t in
       let node : (row_pattern a.item number at t).node ≡ number_of a.item number = sym (ap (λ p. p.node) here) ∙ (pattern_of_stands a.item (numbered number at (inner t))).number in
       subst (λ p. MatchedTo F scope (sight a) G (sight d) p seen added ty.0 row.opens) (sym here)
-      (row_recorded (ap (λ i. number_in i number) goes.item) node (row.typed aloud F scope G s) (type_noted b d number ty noted_as is loud noted rest));
+      (row_recorded (ap (λ i. number_in i number) goes.item) node (row.typed aloud F scope G s) (subst (Records (sight b) (sight d) number ty.0) in_scope (type_noted b d number ty noted_as is loud noted rest)) (surrounds_sees s));
 }
 
 -- the same of a node without names of its own
 pub nameless_matched : (a b d : Parts) (env : List Entry) (number : ℕ) (at : Place) (t : Tree) (ty : NodeRef) (seen : List Name) (added : List Bind) → MatchesRow a b env (row_pattern a.item number at t) seen added (number_of a.item number) ty.0 →
     Goes a b → NotedNameless b d number env (Some ty) → OnlyIndex b d → MatchesTo a d env (pattern_of a.item (numbered number at (inner t))) seen added ty.0
-nameless_matched a b d env number at t ty seen added row goes (names, none, noted) rest = node_matched a b d env number at t ty (record { env = env; ty = Some ty; names = names }) seen added refl row goes noted rest
+nameless_matched a b d env number at t ty seen added row goes (names, none, noted) rest = node_matched a b d env number at t ty (record { env = env; ty = Some ty; names = names }) seen added refl refl row goes noted rest
 
 -- the same with the names that are added
 pub node_matches : (a d : Parts) (env : List Entry) (number : ℕ) (at : Place) (t : Tree) (names more added : List Bind) (seen then : List Name) (m : ℕ) → Adds names more added seen then (row_pattern a.item number at t).mentions →
@@ -111,7 +112,7 @@ missing_matched a b d env o ty seen none made rest goes noted only = record {
       let row : RowMatched F scope (sight a) G (sight b) (no_pattern_at n (place_of o.span)) seen [] n ty.0 [] = record { row = r; among = none_among r.own; done = done_none; names = λ e st h known. none_bound } in
       let same : numbered o.number (place_of o.span) (missing (place_of o.span)) ≡ operand_view o = ap (λ m. numbered o.number (place_of o.span) (part_of m o.span)) (sym none) in
       subst (λ x. MatchedTo F scope (sight a) G (sight d) (pattern_of a.item x) seen [] ty.0 []) same
-      (row_recorded (ap (λ i. number_in i o.number) goes.item) refl row (nameless_noted b d o.number env ty loud noted only));
+      (row_recorded (ap (λ i. number_in i o.number) goes.item) refl row (nameless_noted b d o.number env ty loud noted only) (surrounds_sees s));
 }
 
 -- The same with the names that are added: there are none.

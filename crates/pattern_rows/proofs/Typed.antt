@@ -21,7 +21,7 @@ use Rattle.env_table.specs.declared.entries.Entry.{Entry}
 use Rattle.typing_state.specs.declared.parts.Parts.{Parts}
 use Rattle.typing_state.specs.Goes.{Goes, OnlyStore}
 use Rattle.typing_state.specs.Types.{list_path}
-use Rattle.typing_conditions.specs.Sights.{Sight, own, Letters}
+use Rattle.typing_conditions.specs.Sights.{Sight, Letters}
 use Rattle.typing_conditions.specs.Frames.{Frame}
 use Rattle.typing_conditions.specs.Meanings.{Means, AllMean, one_means, types_by}
 use Rattle.typing_conditions.specs.Carrying.{Carried}

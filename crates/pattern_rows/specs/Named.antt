@@ -32,8 +32,8 @@ pub record NotesRow (a d : Parts) (env : List Entry) (number : ℕ) (asks : ℕ 
   pub noted : NotedNameless between d number env (Some ty)
   pub rest : OnlyIndex between d
 
--- A name is bound to a type: it is asked to be new, its node is recorded with that type, and it stands behind the others.
-pub record BindsName (a d : Parts) (number : ℕ) (t : Tok) (ty : NodeRef) (names names' : List Bind) (seen seen' : List Name) : Type 0 where
+-- A name is bound to a type: it is asked to be new, its node is recorded with that type and the names in scope, and it stands behind the others.
+pub record BindsName (a d : Parts) (env : List Entry) (number : ℕ) (t : Tok) (ty : NodeRef) (names names' : List Bind) (seen seen' : List Name) : Type 0 where
   pub between : Parts
   pub entry : Entry
   pub recorded : Seen
@@ -41,6 +41,7 @@ pub record BindsName (a d : Parts) (number : ℕ) (t : Tok) (ty : NodeRef) (name
   pub goes : Goes a between
   pub is_entry : IsEntry entry t.name ty
   pub has_type : recorded.ty ≡ Some ty
+  pub in_scope : recorded.env ≡ env
   pub noted : Noted between.telling between d number recorded
   pub rest : OnlyIndex between d
   pub adds : Adds names names' (record { token = t; node = ty; entry = entry } ∷ []) seen seen' (t.name ∷ [])
@@ -54,4 +55,4 @@ pub record BindsNone (a d : Parts) (env : List Entry) (number : ℕ) (ty : NodeR
 -- a name that may be missing
 abbrev pub BindsNameIf : Option Tok → (a d : Parts) → List Entry → ℕ → NodeRef → (names names' : List Bind) (seen seen' : List Name) → Type 0
 BindsNameIf None a d env number ty names names' seen seen' = BindsNone a d env number ty names names' seen seen'
-BindsNameIf (Some t) a d env number ty names names' seen seen' = BindsName a d number t ty names names' seen seen'
+BindsNameIf (Some t) a d env number ty names names' seen seen' = BindsName a d env number t ty names names' seen seen'

@@ -34,7 +34,7 @@ use Rattle.use_typing.specs.Paths.{labels_of, path_at}
 use Rattle.pattern_rows.specs.Applied.{MatchesWanted}
 use Rattle.pattern_rows.specs.Bounds.{Bind}
 use Rattle.pattern_rows.specs.CarriedPatterns.{IsCarriedPattern}
-use Rattle.record_steps.specs.Recording.{AsksNothing}
+use Rattle.record_steps.specs.Recording.{NotesScope}
 use Rattle.record_rows.specs.Fields.{BeginsField, FieldsInOrder, FieldsInOrderFirst, GivesType, Puns}
 use Rattle.record_rows.specs.Operands.{fields_of, IsCarriedField, MatchesFieldBy, MatchesWritten, MatchesFieldPart, MatchesRecord, PunsWritten}
 use Rattle.record_rows.proofs.Nodes.{known_record, unknown_record}
@@ -54,17 +54,17 @@ labels_more old new qs None e = ap (map (λ (t : Tok). t.name)) e ∙ map-append
 labels_more old new qs (Some t) e = ap (map (λ (t : Tok). t.name)) e ∙ map-append (λ (t : Tok). t.name) (toks_of old) (t ∷ [])
 
 -- l = p
-pub written_done : (r : Result Unit AllocError) (a mid told d : Parts) (env : List Entry) (found : RecordType) (p q : operands.Written) (o : Numbered) (wanted : Option NodeRef) (names names' : List Bind) (seen seen' : List Name) (old new : List (Bor Token)) → p ≡ q →
-    of_code.BeginsField found a mid (names_seen old) (path_as p) (option_map (λ (n : NodeRef). n.0) wanted) → Goes a mid → AsksNothing mid told → Goes mid told → toks_of new ≡ toks_of old ++ label_if p.last →
+pub written_done : (r : Result Unit AllocError) (a mid told d : Parts) (env : List Entry) (n : ℕ) (found : RecordType) (p q : operands.Written) (o : Numbered) (wanted : Option NodeRef) (names names' : List Bind) (seen seen' : List Name) (old new : List (Bor Token)) → p ≡ q →
+    of_code.BeginsField found a mid (names_seen old) (path_as p) (option_map (λ (n : NodeRef). n.0) wanted) → Goes a mid → NotesScope mid told (number_of mid.item n) env → Goes mid told → toks_of new ≡ toks_of old ++ label_if p.last →
     OnOk r (IsCarriedPattern o → MatchesWanted told d env (pattern_of told.item o) names names' seen seen' (option_map (λ (n : NodeRef). n.0) wanted)) →
-    OnOk r (MatchesWritten a d env (here_of found) (path_as q) o names names' seen seen' (names_seen old) (names_seen new))
-written_done (Err e) a mid told d env found p q o wanted names names' seen seen' old new same begins goes noted goes' labelled matched = tt
-written_done (Ok x) a mid told d env found p q o wanted names names' seen seen' old new same begins goes noted goes' labelled matched = record {
+    OnOk r (MatchesWritten a d env (number_of a.item n) (here_of found) (path_as q) o names names' seen seen' (names_seen old) (names_seen new))
+written_done (Err e) a mid told d env n found p q o wanted names names' seen seen' old new same begins goes noted goes' labelled matched = tt
+written_done (Ok x) a mid told d env n found p q o wanted names names' seen seen' old new same begins goes noted goes' labelled matched = record {
   mid = mid;
   told = told;
   type = option_map (λ (n : NodeRef). n.0) wanted;
   begins = subst (λ w. BeginsField (here_of found) a mid (names_seen old) (path_as w) (option_map (λ (n : NodeRef). n.0) wanted)) same (begins_here found a mid (names_seen old) (path_as p) (option_map (λ (n : NodeRef). n.0) wanted) begins);
-  noted = noted;
+  noted = subst (λ i. NotesScope mid told (number_of i n) env) goes.item noted;
   wanted = matched;
   goes_mid = goes;
   goes_told = goes';
@@ -85,16 +85,16 @@ field_by (Ok x) a d env found o nd p names names' seen seen' labels labels' some
     (subst (λ y. MatchesFieldBy p a d env (here_of found) o.number (path_as (path_at (part_of y o.span))) names names' seen seen' labels labels') some h))
 
 -- a field whose label is its name
-pub punned_done : (r : Result Unit AllocError) (a mid d : Parts) (n : ℕ) (found : RecordType) (p q : operands.Written) (wanted : Option NodeRef) (names names' : List Bind) (seen seen' : List Name) (old new : List (Bor Token)) → p ≡ q →
-    of_code.BeginsField found a mid (names_seen old) (path_as p) (option_map (λ (n : NodeRef). n.0) wanted) → Goes a mid → toks_of new ≡ toks_of old ++ label_if p.last → OnOk r (Puns p.last mid d (number_of mid.item n) (option_map (λ (n : NodeRef). n.0) wanted) names names' seen seen') →
-    OnOk r (PunsWritten a d (number_of a.item n) (here_of found) (path_as q) names names' seen seen' (names_seen old) (names_seen new))
-punned_done (Err e) a mid d n found p q wanted names names' seen seen' old new same begins goes labelled puns = tt
-punned_done (Ok x) a mid d n found p q wanted names names' seen seen' old new same begins goes labelled puns =
-    subst (λ w. PunsWritten a d (number_of a.item n) (here_of found) (path_as w) names names' seen seen' (names_seen old) (names_seen new)) same (record {
+pub punned_done : (r : Result Unit AllocError) (a mid d : Parts) (env : List Entry) (n : ℕ) (found : RecordType) (p q : operands.Written) (wanted : Option NodeRef) (names names' : List Bind) (seen seen' : List Name) (old new : List (Bor Token)) → p ≡ q →
+    of_code.BeginsField found a mid (names_seen old) (path_as p) (option_map (λ (n : NodeRef). n.0) wanted) → Goes a mid → toks_of new ≡ toks_of old ++ label_if p.last → OnOk r (Puns p.last mid d env (number_of mid.item n) (option_map (λ (n : NodeRef). n.0) wanted) names names' seen seen') →
+    OnOk r (PunsWritten a d env (number_of a.item n) (here_of found) (path_as q) names names' seen seen' (names_seen old) (names_seen new))
+punned_done (Err e) a mid d env n found p q wanted names names' seen seen' old new same begins goes labelled puns = tt
+punned_done (Ok x) a mid d env n found p q wanted names names' seen seen' old new same begins goes labelled puns =
+    subst (λ w. PunsWritten a d env (number_of a.item n) (here_of found) (path_as w) names names' seen seen' (names_seen old) (names_seen new)) same (record {
       mid = mid;
       type = option_map (λ (n : NodeRef). n.0) wanted;
       begins = begins_here found a mid (names_seen old) (path_as p) (option_map (λ (n : NodeRef). n.0) wanted) begins;
-      puns = subst (λ i. Puns p.last mid d (number_of i n) (option_map (λ (n : NodeRef). n.0) wanted) names names' seen seen') goes.item puns;
+      puns = subst (λ i. Puns p.last mid d env (number_of i n) (option_map (λ (n : NodeRef). n.0) wanted) names names' seen seen') goes.item puns;
       goes = goes;
       labelled = labels_more old new p.qualifiers p.last labelled;
     })

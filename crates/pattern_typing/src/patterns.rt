@@ -333,7 +333,7 @@ fn bind<'a>(
     names: &mut Vec<BoundName<'a>>,
     seen: &mut Mentioned<'a>,
 ) -> Result<(), NoMemory>
-    ensures binds { OnOk result (BindsName at.old at.new number (tok_of token.now) ty (binds_of names.old.items) (binds_of names.new.items) (names_seen seen.old.items) (names_seen seen.new.items)) }
+    ensures binds { OnOk result (BindsName at.old at.new env.now number (tok_of token.now) ty (binds_of names.old.items) (binds_of names.new.items) (names_seen seen.old.items) (names_seen seen.new.items)) }
     ensures tells { OnOk result (TellsName (toks_of seen.old.items) (tok_of token.now) at.old at.new) }
     ensures seen { OnOk result (toks_of seen.new.items ≡ toks_of seen.old.items ++ tok_of token.now ∷ []) }
     ensures names { OnOk result (Binds names.old.items names.new.items (tok_of token.now ∷ [])) }
@@ -988,7 +988,7 @@ fn match_written<'a>(
     seen: &mut Mentioned<'a>,
     depth: Depth,
 ) -> Result<(), NoMemory>
-    ensures carries { OnOk result (MatchesWritten at.old at.new env.now (here_of begun.old.found) (path_as (path_at (operand_view field.entry).part)) (operand_view part.entry) (binds_of names.old.items) (binds_of names.new.items) (names_seen seen.old.items) (names_seen seen.new.items) (names_seen begun.old.labels.items) (names_seen begun.new.labels.items)) }
+    ensures carries { OnOk result (MatchesWritten at.old at.new env.now (number_of at.old.item field.entry.number) (here_of begun.old.found) (path_as (path_at (operand_view field.entry).part)) (operand_view part.entry) (binds_of names.old.items) (binds_of names.new.items) (names_seen seen.old.items) (names_seen seen.new.items) (names_seen begun.old.labels.items) (names_seen begun.new.labels.items)) }
     ensures found { OnOk result (here_of begun.new.found ≡ here_of begun.old.found) }
     ensures names { OnOk result (Binds names.old.items names.new.items (pattern_names (operand_view part.entry))) }
     ensures goes { Goes at.old at.new }
@@ -1008,7 +1008,7 @@ fn pun<'a>(
     names: &mut Vec<BoundName<'a>>,
     seen: &mut Mentioned<'a>,
 ) -> Result<(), NoMemory>
-    ensures carries { OnOk result (PunsWritten at.old at.new (number_of at.old.item field.entry.number) (here_of begun.old.found) (path_as (path_at (operand_view field.entry).part)) (binds_of names.old.items) (binds_of names.new.items) (names_seen seen.old.items) (names_seen seen.new.items) (names_seen begun.old.labels.items) (names_seen begun.new.labels.items)) }
+    ensures carries { OnOk result (PunsWritten at.old at.new env.now (number_of at.old.item field.entry.number) (here_of begun.old.found) (path_as (path_at (operand_view field.entry).part)) (binds_of names.old.items) (binds_of names.new.items) (names_seen seen.old.items) (names_seen seen.new.items) (names_seen begun.old.labels.items) (names_seen begun.new.labels.items)) }
     ensures found { OnOk result (here_of begun.new.found ≡ here_of begun.old.found) }
     ensures names { OnOk result (Binds names.old.items names.new.items (name_of (path_at (operand_view field.entry).part).last)) }
     ensures goes { Goes at.old at.new }
@@ -1038,7 +1038,7 @@ fn pun_of<'a>(
     names: &mut Vec<BoundName<'a>>,
     seen: &mut Mentioned<'a>,
 ) -> Result<(), NoMemory>
-    ensures puns { OnOk result (Puns (path_view label.now).last at.old at.new (number_of at.old.item number) (option_map (λ n. n.0) wanted) (binds_of names.old.items) (binds_of names.new.items) (names_seen seen.old.items) (names_seen seen.new.items)) }
+    ensures puns { OnOk result (Puns (path_view label.now).last at.old at.new env.now (number_of at.old.item number) (option_map (λ n. n.0) wanted) (binds_of names.old.items) (binds_of names.new.items) (names_seen seen.old.items) (names_seen seen.new.items)) }
     ensures names { OnOk result (Binds names.old.items names.new.items (name_of (path_view label.now).last)) }
     ensures goes { Goes at.old at.new }
 {
@@ -1062,7 +1062,7 @@ fn bind_label<'a>(
     names: &mut Vec<BoundName<'a>>,
     seen: &mut Mentioned<'a>,
 ) -> Result<(), NoMemory>
-    ensures binds { OnOk result (BindsLabel at.old at.new (number_of at.old.item number) (tok_of token.now) ty (binds_of names.old.items) (binds_of names.new.items) (names_seen seen.old.items) (names_seen seen.new.items)) }
+    ensures binds { OnOk result (BindsLabel at.old at.new env.now (number_of at.old.item number) (tok_of token.now) ty (binds_of names.old.items) (binds_of names.new.items) (names_seen seen.old.items) (names_seen seen.new.items)) }
     ensures tells { OnOk result (TellsName (toks_of seen.old.items) (tok_of token.now) at.old at.new) }
     ensures seen { OnOk result (toks_of seen.new.items ≡ toks_of seen.old.items ++ tok_of token.now ∷ []) }
     ensures names { OnOk result (Binds names.old.items names.new.items (tok_of token.now ∷ [])) }

@@ -16,6 +16,7 @@ pub mod Reference
 pub mod Ones
 pub mod Plain
 pub mod FirstNames
+pub mod FirstAscii
 pub mod Starts
 pub mod Behind
 pub mod Steps

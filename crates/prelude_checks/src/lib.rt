@@ -8,10 +8,11 @@
 //! are defined.
 #![tactic(auto)]
 
-ghost use Rattle.std.specs.Prelude.{◌≡◌, ℕ, Bool, true, List, codes};
+ghost use Rattle.std.specs.Prelude.{◌≡◌, ℕ, Bool, true, List, codes, Some, slice_get};
 ghost use Rattle.token_model.specs.Kinds.{Tok};
 ghost use Rattle.token_model.specs.Tokens.{Lex};
 ghost use Rattle.tree_model.specs.Trees.{Tree};
+ghost use Rattle.query_model.specs.TypedNodes.{Typed};
 ghost use Rattle.type_model.specs.Types.{Path, Typ};
 ghost use Rattle.signature_model.specs.Declarations.{Name};
 ghost use Rattle.signature_model.specs.Entries.{Entry, Environment, free_in};
@@ -27,6 +28,8 @@ ghost use Rattle.typing_model.specs.Demands.{Site};
 ghost use Rattle.typing_model.specs.Plain.{has_no_modules, has_lets_alone};
 ghost use Rattle.fault_model.specs.Refused.{Refused, AreRefused};
 ghost use Rattle.typing_model.specs.PreludeText.{prelude_text};
+ghost use Rattle.typed_model.specs.Shown.{AreShown};
+ghost use Rattle.shown_alike.specs.Settled.{HasNone, type_at, IsTold, IsSettled};
 ghost use Rattle.model_checks.specs.Kept.{kept_at, reference_kept};
 ghost use Rattle.model_checks.specs.Open.{open_types};
 ghost use Rattle.prelude_checks.specs.Found.{reference_open};
@@ -67,6 +70,14 @@ pub fn kept_demands_that_are_found_are_one()
 /// The places and kinds of the faults of items that are `let` and `;;` alone are one, and so are the messages of those on names.
 pub fn faults_of_lets_are_one()
     ensures { (items : List Tree) (faults others : List Refused) → has_lets_alone items ≡ true → AreRefused items faults → AreRefused items others → faults ≡ others }
+{}
+
+/// The text that is shown of a node of such items is one, where the node is told with its type, whose constructors have the paths of
+/// declarations, a path of names reaches each origin in it, its whole text has at most 4,096 bytes, and none of its variables is weak.
+pub fn types_of_lets_are_one()
+    ensures { (items : List Tree) (nodes : List Typed) (texts others : List (List ℕ)) → has_lets_alone items ≡ true → (a : AreShown items nodes texts) (b : AreShown items nodes others) →
+        (k : ℕ) (n : Typed) (shown other : List ℕ) → slice_get nodes k ≡ Some n → slice_get texts k ≡ Some shown → slice_get others k ≡ Some other →
+        IsSettled a.typing a.weak n → IsTold b.typing n → HasNone a.weak (type_at a.typing n) → HasNone b.weak (type_at b.typing n) → shown ≡ other }
 {}
 
 /// And the types of its nodes print alike in two most general choices, where the weak variables are those that are free behind its items.

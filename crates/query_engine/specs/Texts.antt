@@ -11,7 +11,7 @@ use Rattle.type_print_model.specs.Variables.{variable_name, variables_of}
 use Rattle.env_table.specs.declared.entries.Entry.{Entry}
 use Rattle.type_print.specs.Meeting.{roots_of}
 use Rattle.type_print.specs.Shown.{shown}
-use Rattle.type_print.specs.Texts.{PrintsWith, PrintsBy}
+use Rattle.type_print.specs.Texts.{PrintsWith, PrintsBy, PrintsIn}
 use Rattle.query_engine.specs.declared.asked.Asked.{Asked}
 use Rattle.query_engine.specs.declared.types.Typed as code
 
@@ -27,6 +27,7 @@ weak_nodes a = if list_all (is_node a) (numbers a.weak.now) then numbers a.weak.
 pub record PrintsNode (a : Asked) (env : List Entry) (n : ℕ) (text : List ℕ) : Type 0 where
   pub found : PrintsWith a.store.now.nodes env (variable_name (roots_of a.store.now.nodes (weak_nodes a)) (variables_of (shown a.store.now.nodes n))) (shown a.store.now.nodes n) text
   pub defined : PrintsBy a.store.now.nodes env (roots_of a.store.now.nodes (weak_nodes a)) (variables_of (shown a.store.now.nodes n)) (shown a.store.now.nodes n) text
+  pub inside : PrintsIn a.store.now.nodes env (roots_of a.store.now.nodes (weak_nodes a)) (variables_of (shown a.store.now.nodes n)) (shown a.store.now.nodes n) text
 
 -- the text of a type: any type where it is no node
 abbrev pub IsTextOf : Asked → List Entry → ℕ → List ℕ → Type 0

@@ -20,25 +20,25 @@ use Rattle.typing_conditions.specs.Surroundings.{Surrounds}
 use Rattle.typing_conditions.specs.Hiding.{ArePlaced, AreDone, IsAmong}
 use Rattle.typing_conditions.proofs.Carried.{carried_refl, carried_trans, carried_as, done_as, done_then, done_last}
 use Rattle.typing_conditions.proofs.Meaning.{means_on, nodes_in}
-use Rattle.typing_conditions.proofs.Nodes.{told_first}
+use Rattle.typing_conditions.proofs.Recording.{told_at}
 use Rattle.typing_conditions.proofs.Stays.{stays_closed}
-use Rattle.typing_conditions.proofs.Surrounding.{surrounds_on}
+use Rattle.typing_conditions.proofs.Surrounding.{surrounds_on, surrounds_sees}
 use Rattle.typing_conditions.proofs.Hiding.{keeps_same, done_none, done_both, done_on, done_sure}
 use Rattle.typing_conditions.proofs.Keeping.{all_among, among_before, carried_kept, kept_hides}
 use Rattle.typing_steps.specs.States.{is_aloud, sight}
 use Rattle.typing_steps.specs.Typing.{as_declared}
 use Rattle.typing_steps.specs.Building.{TakesAs, used_by}
 use Rattle.record_steps.specs.Alike.{SameRecord}
-use Rattle.record_steps.specs.Recording.{AsksNothing, field_in}
+use Rattle.record_steps.specs.Recording.{AsksNothing, HasScope, field_in}
 use Rattle.record_steps.proofs.Fielded.{stands_on}
 use Rattle.record_steps.proofs.Named.{same_field}
 use Rattle.record_steps.proofs.Uses.{use_on}
 use Rattle.pattern_rows.specs.Applied.{MatchesAsIf, MatchesWanted}
 use Rattle.pattern_rows.specs.Bounds.{Bind, AllBound, none_bound, Adds}
 use Rattle.pattern_rows.proofs.Naming.{all_bound_on, all_bound_both, adds_none, adds_both}
-use Rattle.pattern_rows.proofs.Opened.{done_grouped}
+use Rattle.pattern_rows.proofs.Opened.{done_grouped, done_told}
 use Rattle.record_rows.specs.Fields.{RecordHere, KnownAs, BeginsField, names_of_fields, mentions_of_fields, field_rest, FieldEnded, EndsField, FieldAdds, MatchesFields, MatchesFieldsFirst, FieldsInOrder, FieldsInOrderFirst}
-use Rattle.record_rows.proofs.Opened.{stays_more, stays_without}
+use Rattle.record_rows.proofs.Opened.{scope_on, stays_more, stays_without}
 
 -- what is known of a record type stays known
 pub known_on : {F : Frame} {a b : Sight} {G H : Letters} (n : ℕ) (here : RecordHere) (found : Option rules.Declaration) → Stays F a G b H → KnownAs F a G n here found → KnownAs F b H n here found
@@ -69,15 +69,15 @@ field_is c n (Some d) p = by p.last
     by None = refl
     by (Some t) = inside (find_label t.name (labels_in d.shape))
 
--- a field with a pattern of its own, which has the type of the field
-pub pattern_ends : (b d : Parts) (env : List Entry) (k : ℕ) (l : Written) (p : Pattern) (names names' : List Bind) (seen seen' : List Name) (ty : Option ℕ) → MatchesWanted b d env p names names' seen seen' ty →
+-- a field with a pattern of its own, which has the type of the field; its node is recorded before
+pub pattern_ends : (b d : Parts) (env : List Entry) (k : ℕ) (l : Written) (p : Pattern) (names names' : List Bind) (seen seen' : List Name) (ty : Option ℕ) → (is_aloud b.telling ≡ true → HasScope (sight b) k env) → MatchesWanted b d env p names names' seen seen' ty →
     FieldAdds b d env (record { node = k; label = l; pattern = Some p }) names names' seen seen' ty
-pattern_ends b d env k l p names names' seen seen' ty matched = record { added = matched.added; adds = matched.adds; typed = record { opens = matched.opens; typed = λ aloud F scope G n t s has. by aloud F scope G n t ty s has matched.typed } }
+pattern_ends b d env k l p names names' seen seen' ty recorded matched = record { added = matched.added; adds = matched.adds; typed = record { opens = matched.opens; typed = λ aloud F scope G n t s has. by aloud F scope G n t ty s has matched.typed } }
   where
     by : is_aloud b.telling ≡ true → (F : Frame) (scope : Scope) (G : Letters) (n : ℕ) (t : Option Typ) (ty : Option ℕ) → Surrounds as_declared F (sight b) G env scope → TakesAs F (sight b) G n t ty → MatchesAsIf b d env p seen matched.added matched.opens ty →
         FieldEnded env F scope (sight b) G (sight d) n (record { node = k; label = l; pattern = Some p }) seen t matched.added matched.opens
-    by aloud F scope G n None None s has typed = let x = typed aloud F scope G s in record { carried = x.carried; done = x.done; names = x.names }
-    by aloud F scope G n (Some t) (Some m) s has typed = let x = typed aloud F scope G k 1 (used_by n t) s has in record { carried = x.carried; done = x.done; names = x.names }
+    by aloud F scope G n None None s has typed = let x = typed aloud F scope G s in record { carried = x.carried; done = x.done; names = x.names; scoped = scope_on x.carried.stays (recorded aloud) }
+    by aloud F scope G n (Some t) (Some m) s has typed = let x = typed aloud F scope G k 1 (used_by n t) s has in record { carried = x.carried; done = x.done; names = x.names; scoped = scope_on x.carried.stays (recorded aloud) }
     by aloud F scope G n None (Some m) s has typed = absurd has
     by aloud F scope G n (Some t) None s has typed = absurd has
 
@@ -113,11 +113,11 @@ takes_on n (Some t) (Some m) s h = means_on s h
 
 -- what the calls of a field ask is what the definitions do
 field_asked : (c : Context) (n : ℕ) (found : Option rules.Declaration) (f : FieldPattern) (labels now : List Name) →
-    ((tell f.node c ++ (if is_there found then ask_once f.node 0 labels f.label else [])) ++ []) ++ field_rest c f now (option_map (used_at c n) (type_in found f.label)) ≡ match_field c n (is_there found) f labels now (field_type c n found f.label)
+    tell f.node c ++ (((if is_there found then ask_once f.node 0 labels f.label else []) ++ []) ++ field_rest c f now (option_map (used_at c n) (type_in found f.label))) ≡ match_field c n (is_there found) f labels now (field_type c n found f.label)
 field_asked c n found f labels now =
-    let e = append-nil (tell f.node c ++ (if is_there found then ask_once f.node 0 labels f.label else [])) in
+    let e = append-nil (if is_there found then ask_once f.node 0 labels f.label else []) in
     let t = field_is c n found f.label in
-    (λ i. e i ++ field_rest c f now (t i))
+    (λ i. tell f.node c ++ (e i ++ field_rest c f now (t i)))
 
 -- no field yet
 pub fields_none : (a : Parts) (env : List Entry) (here : RecordHere) (fs : List FieldPattern) (seen : List Name) → MatchesFieldsFirst a a env here fs fs seen [] seen []
@@ -126,7 +126,7 @@ fields_none a env here fs seen = record {
   typed = λ aloud F scope K G n found s nodes known. record { done = λ c. []; bounds = []; carried = carried_refl; rows_done = done_none; names = none_bound; asks = λ c. refl; binds = refl };
 }
 
--- One field more: its beginning, the record of its node, and its rest.
+-- One field more: its beginning, the record of its node, and its rest; its node is recorded by its end.
 pub fields_more : (a b mid told d : Parts) (env : List Entry) (here : RecordHere) (all left rest : List FieldPattern) (f : FieldPattern) (seen labels now after : List Name) (added more : List Bind) (ty : Option ℕ) →
     left ≡ f ∷ rest → after ≡ now ++ mentions_in_field f → Goes a b → Goes b mid → Goes mid told → MatchesFieldsFirst a b env here all left seen labels now added → BeginsField here b mid labels f.label ty → AsksNothing mid told →
     EndsField told d env f now more ty → MatchesFieldsFirst a d env here all rest seen (labels ++ name_in f.label) after (added ++ more)
@@ -141,14 +141,16 @@ fields_more a b mid told d env here all left rest f seen labels now after added 
       let z = noted F scope (y.letters ++ H) in
       let has = takes_on n (type_in found f.label) ty z.stays y.has_type in
       let outer : Surrounds as_declared F (sight a) (K ++ G) env scope = surrounds_on (stays_more K nodes) s in
-      let begun = carried_trans (carried_trans (told_first {F = F} {scope = scope} {G = H} {a = sight b} f.node) y.carried) z in
+      let begun = carried_trans y.carried z in
       let w = ends.typed louder F scope (y.letters ++ H) n (type_in found f.label) (surrounds_on begun.stays (surrounds_on x.carried.stays outer)) has in
       let one = λ (c : Context). match_field c n (is_there found) f labels now (field_type c n found f.label) in
       let both = carried_trans begun w.carried in
-      let whole = carried_as (λ c. field_asked c n found f labels now) both in
+      let sees = surrounds_sees (surrounds_on x.carried.stays outer) in
+      let from_start = told_at f.node w.scoped.number both w.scoped.at sees in
+      let whole = carried_as (λ c. field_asked c n found f labels now) from_start in
       let same = sym (append_assoc ends.opens y.letters H) in
       let grouped = subst (λ J. Carried F scope one (sight b) H (sight d) J) same whole in
-      let ready : AreDone (sight d) grouped.hidden ends.opens = done_grouped same whole (done_as (λ c. field_asked c n found f labels now) both (done_last begun w.carried w.done)) in
+      let ready : AreDone (sight d) grouped.hidden ends.opens = done_grouped same whole (done_as (λ c. field_asked c n found f labels now) from_start (done_told f.node w.scoped.number both w.scoped.at sees (done_last begun w.carried w.done))) in
       let among : IsAmong ends.opens (ends.opens ++ y.letters) = among_before y.letters (all_among ends.opens) in
       let sure = λ (all_known : F.known ≡ true) (placed : ArePlaced (sight d)). done_sure grouped.hidden grouped.settled placed (grouped.clear all_known placed)
       (subst (λ zs. AreDone (sight d) grouped.hidden (ends.opens ++ zs)) (sym (y.none all_known)) (done_both ready done_none)) in

@@ -1,10 +1,16 @@
--- Letters that are open around a part, beside those of the part.
-use Rattle.std.proofs.Common.{◌++◌, [], ◌∷◌}
+-- Letters that are open around a part, beside those of the part; and recorded names that stay.
+use Rattle.std.proofs.Common.{◌++◌, ℕ, List, [], ◌∷◌}
+use Rattle.env_table.specs.declared.entries.Entry.{Entry}
 use Rattle.typing_conditions.specs.Sights.{Sight, Letters, AreNodes}
 use Rattle.typing_conditions.specs.Frames.{Frame}
 use Rattle.typing_conditions.specs.Carrying.{Stays}
+use Rattle.record_steps.specs.Recording.{HasScope}
 use Rattle.typing_conditions.proofs.Judged.{given_right, nodes_left, nodes_right, nodes_both}
 use Rattle.typing_conditions.proofs.Stays.{stays_refl, stays_trans, stays_opened}
+
+-- the names in scope that are recorded for a node stay so
+pub scope_on : {F : Frame} {a b : Sight} {G H : Letters} {n : ℕ} {env : List Entry} → Stays F a G b H → HasScope a n env → HasScope b n env
+scope_on {env = env} s h = record { item = h.item; place = h.place; number = h.number; at = s.keeps.scopes h.item h.place env h.at }
 
 -- all that a state has stays where letters are opened for nodes of it
 pub stays_more : {F : Frame} {a : Sight} {G : Letters} (K : Letters) → AreNodes K a.nodes → Stays F a G a (K ++ G)

@@ -32,7 +32,8 @@ use Rattle.operand_laws.proofs.Tokens.{path_stands}
 use Rattle.pattern_rows.specs.Bounds.{Bind}
 use Rattle.pattern_rows.specs.CarriedPatterns.{IsCarriedPattern}
 use Rattle.pattern_rows.specs.Contracts.{row_pattern}
-use Rattle.record_steps.specs.Recording.{AsksNothing}
+use Rattle.typing_steps.specs.States.{is_aloud, sight}
+use Rattle.record_steps.specs.Recording.{AsksNothing, HasScope}
 use Rattle.record_steps.proofs.Demanded.{nothing_asked, one_asked}
 use Rattle.record_rows.specs.Fields.{RecordHere, BeginsField, FieldAdds, FieldsInOrderFirst, Puns}
 use Rattle.record_rows.specs.Operands.{field_of, fields_of, labels_at, IsCarriedField, MatchesFieldBy, MatchesFieldPart}
@@ -143,7 +144,7 @@ field_comes a d env here n t names names' seen seen' labels labels' carried x = 
       begins = x.begins;
       noted = λ F scope G. carried_refl;
       adds = subst (λ p. FieldAdds x.mid d env (record { node = number_of x.mid.item n; label = path_as (path_in t 0 1); pattern = option_map (pattern_of x.mid.item) p }) names names' seen seen' x.type) (sym is)
-          (pun_ends x.mid d env (number_of x.mid.item n) (path_in t 0 1).qualifiers (path_in t 0 1).last names names' seen seen' x.type (subst (λ i. Puns (path_in t 0 1).last x.mid d (number_of i n) x.type names names' seen seen') (sym x.goes.item) x.puns));
+          (pun_ends x.mid d env (number_of x.mid.item n) (path_in t 0 1).qualifiers (path_in t 0 1).last names names' seen seen' x.type (subst (λ i. Puns (path_in t 0 1).last x.mid d env (number_of i n) x.type names names' seen seen') (sym x.goes.item) x.puns));
       goes_mid = x.goes;
       goes_told = goes_refl x.mid;
       labelled = x.labelled;
@@ -153,9 +154,9 @@ field_comes a d env here n t names names' seen seen' labels labels' carried x = 
       told = x.told;
       type = x.type;
       begins = x.begins;
-      noted = x.noted;
+      noted = x.noted.asks;
       adds = subst (λ p. FieldAdds x.told d env (record { node = number_of x.told.item n; label = path_as (path_in t 0 1); pattern = option_map (pattern_of x.told.item) p }) names names' seen seen' x.type) (sym is)
-          (pattern_ends x.told d env (number_of x.told.item n) (path_as (path_in t 0 1)) (pattern_of x.told.item o) names names' seen seen' x.type (x.wanted h));
+          (pattern_ends x.told d env (number_of x.told.item n) (path_as (path_in t 0 1)) (pattern_of x.told.item o) names names' seen seen' x.type (λ loud. subst (λ i. HasScope (sight x.told) (number_of i n) env) (sym (x.goes_told.item ∙ x.goes_mid.item)) (x.noted.scope (sym (ap is_aloud x.goes_told.telling) ∙ loud))) (x.wanted h));
       goes_mid = x.goes_mid;
       goes_told = x.goes_told;
       labelled = x.labelled;

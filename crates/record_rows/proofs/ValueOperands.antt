@@ -29,6 +29,7 @@ use Rattle.typing_rows.specs.Contracts.{TypesAsIf}
 use Rattle.record_rows.specs.Fields.{RecordHere}
 use Rattle.record_rows.specs.Operands.{labels_at}
 use Rattle.record_rows.specs.Values.{TypesValue, TypesLabelled, FieldsWrittenFirst}
+use Rattle.typing_steps.specs.States.{is_aloud}
 use Rattle.record_rows.specs.ValueOperands.{labelled_field, value_field_of, value_fields_of, IsCarriedValuePart, IsCarriedValue, IsFormedFieldPart, AreFormedFields, PunsValue, TypesFieldBy, TypesFieldPart}
 use Rattle.record_rows.proofs.Operands.{AreLabels, no_labels, one_label, left_out, labels_ask}
 use Rattle.record_rows.proofs.Rows.{AskAlike}
@@ -37,7 +38,7 @@ use Rattle.record_rows.proofs.Values.{given_value, punned_value, written_more}
 -- the value of a field that has none of its own
 pub pun_value : (a d : Parts) (env : List Entry) (k : ℕ) (qs : List Tok) (last : Option Tok) (wanted : Option NodeRef) → PunsValue last a d env k wanted →
     TypesValue a d env (record { node = k; label = record { qualifiers = qs; last = last }; value = None }) (option_map (λ (w : NodeRef). w.0) wanted)
-pun_value a d env k qs None wanted nothing = λ aloud F scope G n t names has. record { letters = []; carried = nothing F scope G; done = done_none }
+pun_value a d env k qs None wanted nothing = λ aloud F scope G n t names has. record { letters = []; carried = nothing.asks F scope G; done = done_none; scoped = nothing.scope aloud }
 pun_value a d env k qs (Some t) wanted x = punned_value a x.used x.asked d env k qs t x.node wanted x.typed x.goes x.equal x.noted
 
 -- What comes of it.
@@ -58,9 +59,9 @@ field_comes (Some o) a d env here n l labels labels' carried x = record {
   told = x.told;
   type = x.type;
   begins = x.begins;
-  noted = x.noted;
+  noted = x.noted.asks;
   value = let item : x.told.item ≡ a.item = x.goes_told.item ∙ x.goes_mid.item in
-      given_value x.told d env (number_of a.item n) l (expression_of a.item o) x.type (subst (λ i. TypesAsIf x.told d env (expression_of i o) x.type) item (x.value carried));
+      given_value x.told d env (number_of a.item n) l (expression_of a.item o) x.type (λ loud. x.noted.scope (sym (ap is_aloud x.goes_told.telling) ∙ loud)) (subst (λ i. TypesAsIf x.told d env (expression_of i o) x.type) item (x.value carried));
   goes_mid = x.goes_mid;
   goes_told = x.goes_told;
   labelled = x.labelled;

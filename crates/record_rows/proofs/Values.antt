@@ -23,8 +23,8 @@ use Rattle.typing_conditions.specs.Surroundings.{Surrounds}
 use Rattle.typing_conditions.specs.Hiding.{AreOfRow, AreDone}
 use Rattle.typing_conditions.proofs.Carried.{carried_refl, carried_trans, carried_as, done_as, done_then, done_last}
 use Rattle.typing_conditions.proofs.Meaning.{means_on}
-use Rattle.typing_conditions.proofs.Nodes.{told_first}
-use Rattle.typing_conditions.proofs.Surrounding.{surrounds_on}
+use Rattle.typing_conditions.proofs.Recording.{told_at}
+use Rattle.typing_conditions.proofs.Surrounding.{surrounds_on, surrounds_sees}
 use Rattle.typing_conditions.proofs.Hiding.{done_none, done_both, owns_row, below_none, below_more}
 use Rattle.typing_conditions.proofs.Keeping.{all_among, carried_kept, kept_done, noted_sure}
 use Rattle.typing_steps.specs.States.{is_aloud, sight}
@@ -32,19 +32,20 @@ use Rattle.typing_steps.specs.Typing.{as_declared, TypesOwn, AsksEqualIf}
 use Rattle.typing_steps.specs.Building.{TakesAs, used_by}
 use Rattle.typing_rows.specs.Contracts.{TypesAsIf}
 use Rattle.record_steps.specs.Alike.{SameRecord}
-use Rattle.record_steps.specs.Recording.{AsksNothing, NotesNode}
+use Rattle.record_steps.specs.Recording.{AsksNothing, HasScope, NotesNode}
 use Rattle.record_steps.proofs.Named.{same_field}
-use Rattle.pattern_rows.proofs.Opened.{done_grouped}
+use Rattle.pattern_rows.proofs.Opened.{done_grouped, done_told}
 use Rattle.record_rows.specs.Fields.{RecordHere, KnownAs, BeginsField}
 use Rattle.record_rows.specs.Values.{value_asked, TypesValue, TypesFields, TypesValuesFirst, FieldsWritten, FieldsWrittenFirst, TypesLabelled}
+use Rattle.record_rows.proofs.Opened.{scope_on}
 use Rattle.record_rows.proofs.Fields.{known_on, is_there, type_in, field_is, takes_on, field_begun}
 
--- an expression as a value
-pub given_value : (a b : Parts) (env : List Entry) (k : ℕ) (l : Written) (e : Expression) (ty : Option ℕ) → TypesAsIf a b env e ty → TypesValue a b env (record { node = k; label = l; value = Some e }) ty
-given_value a b env k l e None typed aloud F scope G n None names has = record { letters = []; carried = typed aloud F scope G names; done = done_none }
-given_value a b env k l e (Some m) typed aloud F scope G n (Some t) names has = record { letters = []; carried = typed aloud F scope G k 2 (used_by n t) names has; done = done_none }
-given_value a b env k l e (Some m) typed aloud F scope G n None names has = absurd has
-given_value a b env k l e None typed aloud F scope G n (Some t) names has = absurd has
+-- an expression as a value; the field's node is recorded before
+pub given_value : (a b : Parts) (env : List Entry) (k : ℕ) (l : Written) (e : Expression) (ty : Option ℕ) → (is_aloud a.telling ≡ true → HasScope (sight a) k env) → TypesAsIf a b env e ty → TypesValue a b env (record { node = k; label = l; value = Some e }) ty
+given_value a b env k l e None recorded typed aloud F scope G n None names has = let x = typed aloud F scope G names in record { letters = []; carried = x; done = done_none; scoped = scope_on x.stays (recorded aloud) }
+given_value a b env k l e (Some m) recorded typed aloud F scope G n (Some t) names has = let x = typed aloud F scope G k 2 (used_by n t) names has in record { letters = []; carried = x; done = done_none; scoped = scope_on x.stays (recorded aloud) }
+given_value a b env k l e (Some m) recorded typed aloud F scope G n None names has = absurd has
+given_value a b env k l e None recorded typed aloud F scope G n (Some t) names has = absurd has
 
 -- what is asked of the name of a label as a value, with the letter of the field's node k, which isn't noted yet
 pun_asked : (a b d : Parts) (env : List Entry) (k : ℕ) (qs : List Tok) (x : Tok) (m : ℕ) (wanted : Option NodeRef) → TypesOwn a b env (λ c t. value_asks c k 1 (record { qualifiers = []; last = Some x }) t) m → Goes a b → AsksEqualIf b d (place_of x) m wanted →
@@ -66,7 +67,7 @@ letter_of_row : (k m : ℕ) → AreOfRow k ((letter k 0, m) ∷ [])
 letter_of_row k m = (below_more 0 1 m (omega arith) (omega arith) (below_none k 0)).of_row
 
 -- The name of a label as a value, once the field's node is noted.
-pub punned_value : (a b d e : Parts) (env : List Entry) (k : ℕ) (qs : List Tok) (x : Tok) (m : ℕ) (wanted : Option NodeRef) → TypesOwn a b env (λ c t. value_asks c k 1 (record { qualifiers = []; last = Some x }) t) m → Goes a b → AsksEqualIf b d (place_of x) m wanted → NotesNode d e k →
+pub punned_value : (a b d e : Parts) (env : List Entry) (k : ℕ) (qs : List Tok) (x : Tok) (m : ℕ) (wanted : Option NodeRef) → TypesOwn a b env (λ c t. value_asks c k 1 (record { qualifiers = []; last = Some x }) t) m → Goes a b → AsksEqualIf b d (place_of x) m wanted → NotesNode d e k env →
     TypesValue a e env (record { node = k; label = record { qualifiers = qs; last = Some x }; value = None }) (option_map (λ (w : NodeRef). w.0) wanted)
 punned_value a b d e env k qs x m wanted typed goes asked noted aloud F scope G n t names has =
     let p = pun_asked a b d env k qs x m wanted typed goes asked aloud F scope G n t names has in
@@ -78,6 +79,7 @@ punned_value a b d e env k qs x m wanted typed goes asked noted aloud F scope G 
       letters = letters;
       carried = carried_as (λ c. append-nil (value_asked c (record { node = k; label = record { qualifiers = qs; last = Some x }; value = None }) (option_map (used_at c n) t))) kept;
       done = done_as _ kept (kept_done letters (carried_trans p w) sure (letter_of_row k m).sure);
+      scoped = noted.scope (p.stays.aloud ∙ aloud);
     }
 
 -- whether a declaration is found, in the words of both
@@ -91,12 +93,12 @@ values_none a env here labels fs = λ aloud F scope G n found s known. record { 
 
 -- what the calls of a field ask is what the definitions do
 value_is : (c : Context) (n : ℕ) (found : Option rules.Declaration) (f : Field) (labels : List Name) →
-    ((tell f.node c ++ (if is_there found then ask_once f.node 0 labels f.label else [])) ++ []) ++ value_asked c f (option_map (used_at c n) (type_in found f.label)) ≡ field_value_asks c (is_some found) f labels (field_type c n found f.label)
+    tell f.node c ++ (((if is_there found then ask_once f.node 0 labels f.label else []) ++ []) ++ value_asked c f (option_map (used_at c n) (type_in found f.label))) ≡ field_value_asks c (is_some found) f labels (field_type c n found f.label)
 value_is c n found f labels =
-    let e = append-nil (tell f.node c ++ (if is_there found then ask_once f.node 0 labels f.label else [])) in
+    let e = append-nil (if is_there found then ask_once f.node 0 labels f.label else []) in
     let t = field_is c n found f.label in
     let q = found_so found in
-    (λ i. e i ++ value_asked c f (t i)) ∙ (λ i. (tell f.node c ++ (if q i then ask_once f.node 0 labels f.label else [])) ++ value_asked c f (field_type c n found f.label))
+    (λ i. tell f.node c ++ (e i ++ value_asked c f (t i))) ∙ (λ i. (tell f.node c ++ (if q i then ask_once f.node 0 labels f.label else [])) ++ value_asked c f (field_type c n found f.label))
 
 -- a field, with the letters of its row, and those of the record for it, of which there is none where all of names is known
 record ValueStep (F : Frame) (scope : Scope) (asks : Asks) (a : Sight) (G : Letters) (b : Sight) : Type 0 where
@@ -104,7 +106,7 @@ record ValueStep (F : Frame) (scope : Scope) (asks : Asks) (a : Sight) (G : Lett
   carried : Carried F scope asks a G b (letters ++ G)
   done : F.known ≡ true → AreDone b carried.hidden letters
 
--- One field, whatever is known of its record.
+-- One field, whatever is known of its record; its node is recorded by its end.
 value_step : (b mid told d : Parts) (env : List Entry) (here : RecordHere) (f : Field) (labels : List Name) (ty : Option ℕ) → Goes b mid → Goes mid told → BeginsField here b mid labels f.label ty → AsksNothing mid told → TypesValue told d env f ty →
     is_aloud b.telling ≡ true → (F : Frame) (scope : Scope) (H : Letters) (n : ℕ) (found : Option rules.Declaration) → Surrounds as_declared F (sight b) H env scope → KnownAs F (sight b) H n here found →
     ValueStep F scope (λ c. field_value_asks c (is_some found) f labels (field_type c n found f.label)) (sight b) H (sight d)
@@ -112,16 +114,19 @@ value_step b mid told d env here f labels ty goes' goes'' begins noted value lou
     let louder : is_aloud told.telling ≡ true = ap is_aloud goes''.telling ∙ ap is_aloud goes'.telling ∙ loud in
     let y = field_begun b mid {scope = scope} n f.node here found labels f.label ty loud known begins in
     let z = noted F scope (y.letters ++ H) in
-    let begun = carried_trans (carried_trans (told_first {F = F} {scope = scope} {G = H} {a = sight b} f.node) y.carried) z in
+    let begun = carried_trans y.carried z in
     let w = value louder F scope (y.letters ++ H) n (type_in found f.label) (surrounds_on begun.stays s) (takes_on n (type_in found f.label) ty z.stays y.has_type) in
-    let step = carried_as {others = λ c. field_value_asks c (is_some found) f labels (field_type c n found f.label)} (λ c. value_is c n found f labels) (carried_trans begun w.carried) in
+    let both = carried_trans begun w.carried in
+    let sees = surrounds_sees s in
+    let from_start = told_at f.node w.scoped.number both w.scoped.at sees in
+    let step = carried_as {others = λ c. field_value_asks c (is_some found) f labels (field_type c n found f.label)} (λ c. value_is c n found f labels) from_start in
     let same = sym (append_assoc w.letters y.letters H) in
     let whole = subst (λ J. Carried F scope (λ c. field_value_asks c (is_some found) f labels (field_type c n found f.label)) (sight b) H (sight d) J) same step in
     record {
       letters = w.letters ++ y.letters;
       carried = whole;
       done = λ all_known. subst (λ zs. AreDone (sight d) whole.hidden (w.letters ++ zs)) (sym (y.none all_known))
-          (done_both (done_grouped same step (done_as (λ c. value_is c n found f labels) (carried_trans begun w.carried) (done_last begun w.carried w.done))) done_none);
+          (done_both (done_grouped same step (done_as (λ c. value_is c n found f labels) from_start (done_told f.node w.scoped.number both w.scoped.at sees (done_last begun w.carried w.done)))) done_none);
     }
 
 -- One field more: its beginning, the record of its node, and its value.

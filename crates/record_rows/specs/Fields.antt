@@ -23,7 +23,7 @@ use Rattle.typing_conditions.specs.Hiding.{AreDone}
 use Rattle.typing_steps.specs.States.{is_aloud, sight}
 use Rattle.typing_steps.specs.Typing.{as_declared, TypesAny}
 use Rattle.typing_steps.specs.Building.{used_by, TakesAs}
-use Rattle.record_steps.specs.Recording.{StandsFor, IsUseOf, TypesField, AsksNothing, NotesNode}
+use Rattle.record_steps.specs.Recording.{StandsFor, IsUseOf, TypesField, HasScope, NotesScope, NotesNode}
 use Rattle.pattern_rows.specs.Bounds.{Bind, AllBound, Adds}
 use Rattle.pattern_rows.specs.Contracts.{AsksFresh}
 
@@ -58,11 +58,12 @@ abbrev pub field_rest : Context → FieldPattern → List Name → Option Typ �
 field_rest c f seen t = elim f.pattern [ None ↦ match_pun c f seen t | Some p ↦ p.matched c seen ++ elim t [ None ↦ [] | Some t ↦ ask f.node 1 p.at (equal (type_at c p.node) t) ] ]
 
 -- This was carried, with letters that stay open, where a field of a record, used at its node n, has this type. Its names stand for those that it binds, whatever other letters
--- are open.
+-- are open. The names in scope are recorded for its node by then.
 pub record FieldEnded (env : List Entry) (F : Frame) (scope : Scope) (a : Sight) (G : Letters) (b : Sight) (n : ℕ) (f : FieldPattern) (seen : List Name) (t : Option Typ) (added : List Bind) (opens : Letters) : Type 0 where
   pub carried : Carried F scope (λ c. field_rest c f seen (option_map (used_at c n) t)) a G b (opens ++ G)
   pub done : AreDone b carried.hidden opens
   pub names : (H : Letters) → Surrounds as_declared F a H env scope → AllBound F b (opens ++ H) (names_in_field n f) added
+  pub scoped : HasScope b f.node env
 
 -- the same of a call, where faults are reported; it opens the same letters whatever surrounds it
 pub record EndsField (a b : Parts) (env : List Entry) (f : FieldPattern) (seen : List Name) (added : List Bind) (ty : Option ℕ) : Type 0 where
@@ -81,27 +82,27 @@ GivesType None a b m = TypesAny a b m
 GivesType (Some w) a b m = (m ≡ w) × (b ≡ a)
 
 -- The name of a label is bound to a type: it is asked to be new, and stands behind the others; the node k of the field is noted then.
-pub record BindsLabel (a d : Parts) (k : ℕ) (t : Tok) (ty : NodeRef) (names names' : List Bind) (seen seen' : List Name) : Type 0 where
+pub record BindsLabel (a d : Parts) (env : List Entry) (k : ℕ) (t : Tok) (ty : NodeRef) (names names' : List Bind) (seen seen' : List Name) : Type 0 where
   pub between : Parts
   pub entry : Entry
   pub fresh : AsksFresh a between t seen
   pub goes : Goes a between
   pub is_entry : IsEntry entry t.name ty
-  pub noted : NotesNode between d k
+  pub noted : NotesNode between d k env
   pub adds : Adds names names' (record { token = t; node = ty; entry = entry } ∷ []) seen seen' (t.name ∷ [])
 
 -- the same with the type of its field, or any type where that isn't known
-pub record PunsName (a d : Parts) (k : ℕ) (t : Tok) (wanted : Option ℕ) (names names' : List Bind) (seen seen' : List Name) : Type 0 where
+pub record PunsName (a d : Parts) (env : List Entry) (k : ℕ) (t : Tok) (wanted : Option ℕ) (names names' : List Bind) (seen seen' : List Name) : Type 0 where
   pub mid : Parts
   pub ty : NodeRef
   pub given : GivesType wanted a mid ty.0
   pub goes : Goes a mid
-  pub binds : BindsLabel mid d k t ty names names' seen seen'
+  pub binds : BindsLabel mid d env k t ty names names' seen seen'
 
 -- what comes of a field without a pattern of its own, with the node k, by the token of its label
-abbrev pub Puns : Option Tok → (a d : Parts) → (k : ℕ) → (wanted : Option ℕ) → (names names' : List Bind) (seen seen' : List Name) → Type 0
-Puns None a d k wanted names names' seen seen' = AsksNothing a d × (names' ≡ names) × (seen' ≡ seen)
-Puns (Some t) a d k wanted names names' seen seen' = PunsName a d k t wanted names names' seen seen'
+abbrev pub Puns : Option Tok → (a d : Parts) → List Entry → (k : ℕ) → (wanted : Option ℕ) → (names names' : List Bind) (seen seen' : List Name) → Type 0
+Puns None a d env k wanted names names' seen seen' = NotesScope a d k env × (names' ≡ names) × (seen' ≡ seen)
+Puns (Some t) a d env k wanted names names' seen seen' = PunsName a d env k t wanted names names' seen seen'
 
 -- Fields were matched, among letters of the record that are open around them: what they ask is carried, with letters that stay open, and their names stand for those that they
 -- bind, also among the letters around the record.

@@ -18,7 +18,7 @@ use Rattle.pattern_rows.specs.Applied.{MatchesWanted}
 use Rattle.pattern_rows.specs.Bounds.{Bind, Adds}
 use Rattle.pattern_rows.specs.CarriedPatterns.{IsCarriedPattern}
 use Rattle.pattern_rows.specs.Contracts.{MatchesRow}
-use Rattle.record_steps.specs.Recording.{AsksNothing}
+use Rattle.record_steps.specs.Recording.{NotesScope}
 use Rattle.record_rows.specs.Fields.{RecordHere, BeginsField, Puns, mentions_of_fields}
 
 -- an operand of an item as a field of a pattern, where it is one
@@ -55,31 +55,31 @@ IsCarriedFieldPart n (missing at) = Unit {0}
 abbrev pub IsCarriedField : Numbered → Type 0
 IsCarriedField o = IsCarriedFieldPart o.number o.part
 
--- What a field with a pattern of its own does: its beginning, the record of its node, and its pattern; its label is one of those written then.
-pub record MatchesWritten (a d : Parts) (env : List Entry) (here : RecordHere) (l : Written) (o : Numbered) (names names' : List Bind) (seen seen' labels labels' : List Name) : Type 0 where
+-- What a field of the node k with a pattern of its own does: its beginning, the record of its node, and its pattern; its label is one of those written then.
+pub record MatchesWritten (a d : Parts) (env : List Entry) (k : ℕ) (here : RecordHere) (l : Written) (o : Numbered) (names names' : List Bind) (seen seen' labels labels' : List Name) : Type 0 where
   pub mid : Parts
   pub told : Parts
   pub type : Option ℕ
   pub begins : BeginsField here a mid labels l type
-  pub noted : AsksNothing mid told
+  pub noted : NotesScope mid told k env
   pub wanted : IsCarriedPattern o → MatchesWanted told d env (pattern_of told.item o) names names' seen seen' type
   pub goes_mid : Goes a mid
   pub goes_told : Goes mid told
   pub labelled : labels' ≡ labels ++ name_in l
 
 -- What a field without a pattern of its own does, whose node is k: its beginning, and the name of its label; its label is one of those written then.
-pub record PunsWritten (a d : Parts) (k : ℕ) (here : RecordHere) (l : Written) (names names' : List Bind) (seen seen' labels labels' : List Name) : Type 0 where
+pub record PunsWritten (a d : Parts) (env : List Entry) (k : ℕ) (here : RecordHere) (l : Written) (names names' : List Bind) (seen seen' labels labels' : List Name) : Type 0 where
   pub mid : Parts
   pub type : Option ℕ
   pub begins : BeginsField here a mid labels l type
-  pub puns : Puns l.last mid d k type names names' seen seen'
+  pub puns : Puns l.last mid d env k type names names' seen seen'
   pub goes : Goes a mid
   pub labelled : labels' ≡ labels ++ name_in l
 
 -- a field of this number with this label, by its pattern
 abbrev pub MatchesFieldBy : (o : Option Numbered) → (a d : Parts) → List Entry → RecordHere → (number : ℕ) → Written → (names names' : List Bind) (seen seen' labels labels' : List Name) → Type 0
-MatchesFieldBy None a d env here n l names names' seen seen' labels labels' = PunsWritten a d (number_of a.item n) here l names names' seen seen' labels labels'
-MatchesFieldBy (Some o) a d env here n l names names' seen seen' labels labels' = MatchesWritten a d env here l o names names' seen seen' labels labels'
+MatchesFieldBy None a d env here n l names names' seen seen' labels labels' = PunsWritten a d env (number_of a.item n) here l names names' seen seen' labels labels'
+MatchesFieldBy (Some o) a d env here n l names names' seen seen' labels labels' = MatchesWritten a d env (number_of a.item n) here l o names names' seen seen' labels labels'
 
 -- the same of what is at an operand; where it is missing all is as before
 abbrev pub MatchesFieldPart : (a d : Parts) → List Entry → RecordHere → ℕ → Part → (names names' : List Bind) (seen seen' labels labels' : List Name) → Type 0

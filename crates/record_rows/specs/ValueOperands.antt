@@ -17,7 +17,7 @@ use Rattle.operand_laws.specs.Formed.{row_of, IsFormed}
 use Rattle.operand_laws.specs.Operands.{number_of, child_at, expression_of}
 use Rattle.typing_rows.specs.CarriedRows.{IsCarried}
 use Rattle.typing_rows.specs.Contracts.{TypesAsIf}
-use Rattle.record_steps.specs.Recording.{AsksNothing, NotesNode}
+use Rattle.record_steps.specs.Recording.{NotesScope, NotesNode}
 use Rattle.record_rows.specs.Fields.{RecordHere, BeginsField}
 
 -- an operand of an item as a field of an expression, where it is one
@@ -71,20 +71,20 @@ pub record PunsLabel (a d : Parts) (env : List Entry) (k : ℕ) (t : Tok) (wante
   pub typed : TypesOwn a used env (λ c type. value_asks c k 1 (record { qualifiers = []; last = Some t }) type) node
   pub goes : Goes a used
   pub equal : AsksEqualIf used asked (place_of t) node wanted
-  pub noted : NotesNode asked d k
+  pub noted : NotesNode asked d k env
 
--- the same of a label whose token may be missing, where nothing is asked
+-- the same of a label whose token may be missing, where nothing is asked and the node is noted
 abbrev pub PunsValue : Option Tok → (a d : Parts) → List Entry → ℕ → Option NodeRef → Type 0
-PunsValue None a d env k wanted = AsksNothing a d
+PunsValue None a d env k wanted = NotesScope a d k env
 PunsValue (Some t) a d env k wanted = PunsLabel a d env k t wanted
 
--- What a field with a value of its own does: its beginning, the record of its node, and its value; its label is one of those written then.
-pub record GivesValue (a d : Parts) (env : List Entry) (here : RecordHere) (l : Written) (o : Numbered) (labels labels' : List Name) : Type 0 where
+-- What a field of the node k with a value of its own does: its beginning, the record of its node, and its value; its label is one of those written then.
+pub record GivesValue (a d : Parts) (env : List Entry) (here : RecordHere) (k : ℕ) (l : Written) (o : Numbered) (labels labels' : List Name) : Type 0 where
   pub mid : Parts
   pub told : Parts
   pub type : Option ℕ
   pub begins : BeginsField here a mid labels l type
-  pub noted : AsksNothing mid told
+  pub noted : NotesScope mid told k env
   pub value : IsCarried o → TypesAsIf told d env (expression_of told.item o) type
   pub goes_mid : Goes a mid
   pub goes_told : Goes mid told
@@ -102,7 +102,7 @@ pub record GivesPun (a d : Parts) (env : List Entry) (here : RecordHere) (k : �
 -- a field of this number with this label, by its value
 abbrev pub TypesFieldBy : (o : Option Numbered) → (a d : Parts) → List Entry → RecordHere → (number : ℕ) → Written → (labels labels' : List Name) → Type 0
 TypesFieldBy None a d env here n l labels labels' = GivesPun a d env here (number_of a.item n) l labels labels'
-TypesFieldBy (Some o) a d env here n l labels labels' = GivesValue a d env here l o labels labels'
+TypesFieldBy (Some o) a d env here n l labels labels' = GivesValue a d env here (number_of a.item n) l o labels labels'
 
 -- the same of what is at an operand; where it is missing all is as before
 abbrev pub TypesFieldPart : (a d : Parts) → List Entry → RecordHere → ℕ → Part → (labels labels' : List Name) → Type 0

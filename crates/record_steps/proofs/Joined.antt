@@ -35,7 +35,7 @@ made_one {m = m} {n = n} {a = a} {b = b} sound p q rest tight one = record {
   told = [];
   reports = rest.reports ∙ sym (append-nil a.reports);
   counted = refl;
-  sound = λ r V c l. record { same = refl; holds = tt; tells = refl };
+  sound = λ r V c l. record { same = refl; holds = tt; tells = refl; sees = tt; starts = refl };
   follows = λ r V c l. refl;
   complete = λ named V c e h.
       let loose = fits_loosely a.nodes V e.fits in

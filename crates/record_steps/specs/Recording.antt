@@ -31,7 +31,7 @@ use Rattle.typing_state.specs.Messages.{twice_text}
 use Rattle.typing_state.specs.Places.{place_of_tok}
 use Rattle.typing_state.specs.Types.{level_for, JoinedIfNodes}
 use Rattle.typing_conditions.specs.Locals.{IsOwn}
-use Rattle.typing_conditions.specs.Sights.{Sight, Letters, AreNodes}
+use Rattle.typing_conditions.specs.Sights.{Sight, number_in, Letters, AreNodes}
 use Rattle.typing_conditions.specs.Frames.{Frame, IsRoot}
 use Rattle.typing_conditions.specs.Judging.{AreKept}
 use Rattle.typing_conditions.specs.Meanings.{Means}
@@ -174,8 +174,21 @@ TypesField a b d m seen p ty = is_aloud a.telling ≡ true → (F : Frame) (scop
 abbrev pub AsksNothing : (a b : Parts) → Type 0
 AsksNothing a b = (F : Frame) (scope : Scope) (G : Letters) → Carried F scope (λ c. []) (sight a) G (sight b) G
 
--- the same where the node k is noted without a type, for the first time, and nothing is hidden
-pub record NotesNode (a b : Parts) (k : ℕ) : Type 0 where
+-- the names in scope are recorded for the node of this number, among those of all items
+pub record HasScope (a : Sight) (n : ℕ) (env : List Entry) : Type 0 where
+  pub item : ℕ
+  pub place : ℕ
+  pub number : n ≡ number_in item place
+  pub at : a.scopes item place ≡ Some env
+
+-- nothing that conditions see has changed, but that the names in scope are recorded for the node k, where faults are reported
+pub record NotesScope (a b : Parts) (k : ℕ) (env : List Entry) : Type 0 where
   pub asks : AsksNothing a b
+  pub scope : is_aloud a.telling ≡ true → HasScope (sight b) k env
+
+-- the same where the node k is noted without a type, for the first time, and nothing is hidden
+pub record NotesNode (a b : Parts) (k : ℕ) (env : List Entry) : Type 0 where
+  pub asks : AsksNothing a b
+  pub scope : is_aloud a.telling ≡ true → HasScope (sight b) k env
   pub hides : (F : Frame) (scope : Scope) (G : Letters) → (asks F scope G).hidden ≡ []
   pub notes : is_aloud a.telling ≡ true → (m : ℕ) → NotesRow (sight a) (sight b) k m

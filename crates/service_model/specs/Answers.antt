@@ -10,6 +10,8 @@ use Rattle.plain_model.specs.Plain.{Seen, plain_text, type_text}
 use Rattle.query_model.specs.NameTokens.{Name, name_round, text_names}
 use Rattle.query_model.specs.Prefixes.{is_name_prefix}
 use Rattle.query_model.specs.TypedNodes.{Typed, innermost_at, typed_at}
+use Rattle.fault_model.specs.Refused.{IsOfLets}
+use Rattle.typed_model.specs.Shown.{AreShown}
 use Rattle.service_model.specs.Requests.{Asked, tell, type_enclosing, complete_prefix, locate, occurrences, outline, errors, case_analysis, construct, Reading, asks, refused, reading}
 use Rattle.service_model.specs.Replies as said
 use Rattle.service_model.specs.Completions.{CompletedBy}
@@ -71,18 +73,22 @@ types_or_none (t ∷ ts) = said.types (t ∷ ts)
 abbrev pub start_and_end : said.Typed → (ℕ × ℕ) × (ℕ × ℕ)
 start_and_end t = (t.start, t.end)
 
--- what is said of typed nodes at these places: each place, and a type, which stays open
-abbrev pub TypesAre : List ℕ → List Place → said.Said → Type 0
-TypesAre text places s = (types : List said.Typed) × (map start_and_end types ≡ map (shown_place text) places) × (s ≡ types_or_none types)
-
 -- the places of the typed nodes of these items that hold an offset, from the last in preorder to the first
 abbrev pub typed_round : ℕ → List Tree → List Place
 typed_round o items = map (λ n. n.span) (reverse (typed_at o items))
 
+-- What is known of the types that are shown of the typed nodes round an offset: those of a text of `let` and `;;` are those of a principal typing, each printed with the names in scope at its node.
+abbrev pub ShownTypes : List ℕ → ℕ → List (List ℕ) → Type 0
+ShownTypes text o types = (t : IsOfLets text) → ∥ AreShown (items_in t.tokens) (reverse (typed_at o (items_in t.tokens))) types ∥₁
+
+-- what is said of the typed nodes of these items that hold an offset: each place, and a type, which stays open, but for what `ShownTypes` says
+abbrev pub TypesAre : List ℕ → ℕ → List Tree → said.Said → Type 0
+TypesAre text o items s = (types : List said.Typed) × (map start_and_end types ≡ map (shown_place text) (typed_round o items)) × ShownTypes text o (map (λ t. t.type_text) types) × (s ≡ types_or_none types)
+
 -- The types round an offset of a text of these tokens: of the typed nodes that hold it, from the last in preorder to the first. Those of a plain text are known.
 abbrev pub EnclosingBy : List ℕ → ℕ → List Tok → Option (List Tree × List Seen) → said.Said → Type 0
 EnclosingBy text o tokens (Some p) s = s ≡ types_or_none (typed_among text p.1 (reverse (nodes_at o p.0)))
-EnclosingBy text o tokens None s = TypesAre text (typed_round o (items_in tokens)) s
+EnclosingBy text o tokens None s = TypesAre text o (items_in tokens) s
 
 -- ---- queries
 

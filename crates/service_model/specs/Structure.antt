@@ -65,9 +65,13 @@ AreWarnings (f ∷ fs) = (source_of f.kind ≡ warning) × AreWarnings fs
 abbrev pub faults_said : List ℕ → List Fault → said.Said
 faults_said text fs = said.faults (map (shown_fault text) (page fs)) (has_more fs)
 
--- the page of the parser's faults together with those of the typer, in the order of their demands; which these are stays open, but that a text that can be typed has none but warnings, and that those of a text of `let` and `;;` stand at the demands that aren't kept, each of its kind and, where it names no types, with its message
+-- What is known of the typer's faults of a text: a text that can be typed has none but warnings, and those of a text of `let` and `;;` are the demands that aren't kept, in order, each at its place, of its kind and, where it names no types, with its message.
+abbrev pub TyperFaults : List ℕ → List TyperFault → Type 0
+TyperFaults text typed = (IsTypable text → AreWarnings typed) × ((t : IsOfLets text) → ∥ AreRefused (items_in t.tokens) (standing typed) ∥₁)
+
+-- the page of the parser's faults together with those of the typer, in the order of their demands; which these are stays open, but for what `TyperFaults` says
 abbrev pub FaultsAre : List ℕ → List Fault → said.Said → Type 0
-FaultsAre text parsed s = (typed : List TyperFault) × (IsTypable text → AreWarnings typed) × ((t : IsOfLets text) → ∥ AreRefused (items_in t.tokens) (standing typed) ∥₁) × (s ≡ faults_said text (parsed ++ map by_typer typed))
+FaultsAre text parsed s = (typed : List TyperFault) × TyperFaults text typed × (s ≡ faults_said text (parsed ++ map by_typer typed))
 
 -- of a text that is well typed so the parser's faults alone
 abbrev pub ErrorsBy : Bool → List ℕ → List Tok → said.Said → Type 0

@@ -7,7 +7,7 @@ use Rattle.token_model.specs.Kinds.{Tok}
 use Rattle.token_model.specs.Tokens.{Lex}
 use Rattle.tree_model.specs.Trees.{Place}
 use Rattle.query_model.specs.Faults.{Fault, TyperFault, by_typer}
-use Rattle.service_model.specs.Structure.{faults_in}
+use Rattle.service_model.specs.Structure.{faults_in, TyperFaults}
 
 -- bytes in place of a part of a text leave a text: one of whole characters, within the limit
 abbrev pub LeavesText : List ℕ → Place → List ℕ → Type 0
@@ -58,20 +58,21 @@ IsLeast (Some n) ns = Contains ns n × All (λ m. n ≤ m) ns
 
 -- ---- what a trial tells
 
--- This is the first place at which bytes in place of a part of a text add a fault, or none where they add none. The parser's faults are known; some list of the typer's is taken for either text.
+-- This is the first place at which bytes in place of a part of a text add a fault, or none where they add none; a fault is new where the text has none with its mark. The parser's faults are known. Those of the typer are some list for either text, of which `TyperFaults` holds: of a text of `let` and `;;` the place and kind of each are known, but for warnings.
 abbrev pub FirstAdded : List ℕ → Place → List ℕ → Option ℕ → Type 0
 FirstAdded text x bytes first =
     ∥ ((before : List Tok) × (after : List Tok) × (known : List TyperFault) × (found : List TyperFault) × Lex text before × Lex (apply text x.start x.end bytes) after
+    × TyperFaults text known × TyperFaults (apply text x.start x.end bytes) found
     × IsLeast first (new_starts (marks before known) (map (moved_mark x (length bytes)) (marks after found)))) ∥₁
 
 -- the part is one of the text, and the bytes in its place leave a text
 abbrev pub Fits : List ℕ → Place → List ℕ → Type 0
 Fits text x bytes = (x.start ≤ x.end) × (x.end ≤ length text) × LeavesText text x bytes
 
--- What a trial of bytes in place of a part of a text tells: the first place of a new fault, if there is one; where no text is left, the part's start.
+-- What a trial of bytes in place of a part of a text tells: the first place of a new fault, if there is one; where no text is left, the part's start. Where both texts are of `let` and `;;`, it is known which of the typer's faults are new, but for warnings: as far as a mark goes, which has no message.
 abbrev pub TrialTells : List ℕ → Place → List ℕ → Option ℕ → Type 0
 TrialTells text x bytes first = (Fits text x bytes × FirstAdded text x bytes first) ⊎ ((Fits text x bytes → ⊥) × (first ≡ Some x.start))
 
--- bytes in place of a part of a text leave a text, and add no fault
+-- Bytes in place of a part of a text leave a text, and add no fault. So where both texts are of `let` and `;;`, each demand of the changed text that isn't kept has, moved back, the place and the kind of a fault of the text.
 abbrev pub AddsNoFault : List ℕ → Place → List ℕ → Type 0
 AddsNoFault text x bytes = LeavesText text x bytes × FirstAdded text x bytes None

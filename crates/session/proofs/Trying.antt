@@ -15,6 +15,7 @@ use Rattle.text_model.specs.Edits.{apply}
 use Rattle.token_model.specs.Tokens.{Lex}
 use Rattle.tree_model.specs.Trees.{Place}
 use Rattle.query_model.specs.Faults.{by_typer}
+use Rattle.service_model.specs.Structure.{TyperFaults}
 use Rattle.service_model.specs.Trials.{FirstAdded, IsLeast, Mark, is_among, mark_of, marks, moved, moved_mark, new_starts, same_mark}
 use Rattle.env_table.specs.declared.faults.Fault as typer
 use Rattle.frame_steps.specs.declared.stack.SyntaxFault.{SyntaxFault}
@@ -72,11 +73,11 @@ any_in eq same (k ∷ ks) m = rw (same m k, any_in eq same ks m) refl
 
 -- marks of a text's faults are known where they are kept
 pub known_marks : (eq : code.Mark → code.Mark → Bool) → ((a b : code.Mark) → eq a b ≡ same_mark (mark_in a) (mark_in b)) → (text : List ℕ) (parsed : List SyntaxFault) (typed : List typer.Fault) (made keys : List code.Mark)
-    → IsParserOf text parsed → map mark_in made ≡ map mark_of (map fault_of parsed ++ map by_typer (map typer_fault_of typed))
+    → IsParserOf text parsed → TyperFaults text (map typer_fault_of typed) → map mark_in made ≡ map mark_of (map fault_of parsed ++ map by_typer (map typer_fault_of typed))
     → ((q : code.Mark) → list_any (eq q) keys ≡ list_any (eq q) made) → Knows text keys
-known_marks eq same text parsed typed made keys (tokens, lexed, faults) are has =
+known_marks eq same text parsed typed made keys (tokens, lexed, faults) holds are has =
     let all : map mark_in made ≡ marks tokens (map typer_fault_of typed) = are ∙ ap (λ fs. map mark_of (fs ++ map by_typer (map typer_fault_of typed))) faults in
-    (tokens, map typer_fault_of typed, lexed, λ m. any_in eq same keys m ∙ has m ∙ sym (any_in eq same made m) ∙ ap (λ ms. is_among ms (mark_in m)) all)
+    (tokens, map typer_fault_of typed, lexed, holds, λ m. any_in eq same keys m ∙ has m ∙ sym (any_in eq same made m) ∙ ap (λ ms. is_among ms (mark_in m)) all)
 
 -- what is told of marks from one on
 from_mark : (known : List Mark) (move : Mark → Mark) (xs : List code.Mark) (i : ℕ) (d : code.Mark) (there : Mark) (f : Option ℕ) (r : Option ℕ) → i < length xs → there ≡ move (mark_in (get_or xs i d))
@@ -120,15 +121,16 @@ same_starts known others x count (m ∷ ms) same =
 
 -- the first new mark of a changed text that is parsed and typed
 pub first_added : (text bytes put : List ℕ) (x : Place) (keys made ms : List code.Mark) (p : Parsed) (pf : List SyntaxFault) (tf : List typer.Fault) (first : Option ℕ) → ∥ Knows text keys ∥₁
-    → IsParsedAs bytes p → bytes ≡ apply text x.start x.end put → pf ≡ p.faults.items
+    → IsParsedAs bytes p → TyperFaults bytes (map typer_fault_of tf) → bytes ≡ apply text x.start x.end put → pf ≡ p.faults.items
     → map mark_in made ≡ map mark_of (map fault_of pf ++ map by_typer (map typer_fault_of tf)) → ms ≡ made
     → IsLeast first (new_starts (map mark_in keys) (map (moved_mark x (length put)) (map mark_in ms))) → FirstAdded text x put first
-first_added text bytes put x keys made ms p pf tf first knows parsed changed faults are same least =
+first_added text bytes put x keys made ms p pf tf first knows parsed typed changed faults are same least =
     let found = map typer_fault_of tf in
     let move = map (moved_mark x (length put)) in
     let all : map mark_in ms ≡ marks parsed.tokens found =
     ap (map mark_in) same ∙ are ∙ ap (λ fs. map mark_of (fs ++ map by_typer found)) (ap (map fault_of) faults ∙ parsed.faults) in
     let lexed = subst (λ t. Lex t parsed.tokens) changed parsed.lexed in
+    let holds = subst (λ (t : List ℕ). TyperFaults t found) changed typed in
     ∥∥₁_map knows (λ k. (
       k.0,
       parsed.tokens,
@@ -136,7 +138,9 @@ first_added text bytes put x keys made ms p pf tf first knows parsed changed fau
       found,
       k.2,
       lexed,
-      subst (λ ns. IsLeast first ns) (same_starts (map mark_in keys) (marks k.0 k.1) x (length put) ms k.3 ∙ ap (λ m. new_starts (marks k.0 k.1) (move m)) all) least,
+      k.3,
+      holds,
+      subst (λ ns. IsLeast first ns) (same_starts (map mark_in keys) (marks k.0 k.1) x (length put) ms k.4 ∙ ap (λ m. new_starts (marks k.0 k.1) (move m)) all) least,
     ))
 
 same_back : (a b : code.Mark) → same_code a b ≡ same_code b a

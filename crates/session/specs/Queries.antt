@@ -1,5 +1,6 @@
 -- What is said to queries of a position.
-use Rattle.std.specs.Prelude.{◌≡◌, ◌⊎◌, ◌≤◌, All, ℕ, List, [], length, Option, None, false, codes}
+use Rattle.std.specs.Prelude.{◌≡◌, ◌⊎◌, ◌≤◌, All, ℕ, List, [], length, map, reverse, Option, None, false, codes}
+use Rattle.std.specs.List.{AllZip}
 use Rattle.text_terms.specs.Bytes.{str_bytes}
 use Rattle.text_model.specs.Positions.{position_of}
 use Rattle.token_model.specs.Kinds.{Tok}
@@ -7,12 +8,15 @@ use Rattle.token_model.specs.Tokens.{Lex}
 use Rattle.tree_model.specs.Trees.{Tree}
 use Rattle.plain_model.specs.Plain.{plain_text}
 use Rattle.query_model.specs.Prefixes.{is_name_prefix}
-use Rattle.query_model.specs.TypedNodes.{Typed, innermost_at}
+use Rattle.query_model.specs.TypedNodes.{Typed, innermost_at, typed_at}
 use Rattle.service_model.specs.Replies as said
 use Rattle.service_model.specs.Completions.{CompletedBy}
-use Rattle.service_model.specs.Answers.{typed_round, CasesBy, ItemsAre, LocatedBy, TermsBy, TypesAre, UsedBy}
+use Rattle.service_model.specs.Answers.{shown_place, start_and_end, typed_round, types_or_none, CasesBy, ItemsAre, LocatedBy, TermsBy, TypesAre, UsedBy}
 use Rattle.service_model.specs.Structure.{faults_in, items_in, FaultsAre}
 use Rattle.service_model.specs.WellTyped.{is_well_typed}
+use Rattle.syntax_tree.specs.View.{trees_of}
+use Rattle.query_engine.specs.declared.asked.Asked.{Asked}
+use Rattle.query_engine.specs.Texts.{IsTypeText}
 use Rattle.name_queries.specs.declared.shown_entries.Completion.{Completion}
 use Rattle.name_queries.specs.NewestNames.{printed}
 use Rattle.session.specs.Changes.{changes_in, IsPlaced}
@@ -42,7 +46,14 @@ IsNotPlain text = (tokens : List Tok) × Lex text tokens × (plain_text tokens �
 
 -- the types of the items' nodes that hold an offset
 abbrev pub AreTypesRound : List ℕ → ℕ → said.Said → Type 0
-AreTypesRound text o s = (tokens : List Tok) × Lex text tokens × TypesAre text (typed_round o (items_in tokens)) s
+AreTypesRound text o s = (tokens : List Tok) × Lex text tokens × TypesAre text o (items_in tokens) s
+
+-- What is said of the typed nodes that hold an offset, by what is asked: the place of each, and the text of its type.
+pub record AreTypesBy (text : List ℕ) (o : ℕ) (a : Asked) (s : said.Said) : Type 0 where
+  pub types : List said.Typed
+  pub places : map start_and_end types ≡ map (shown_place text) (typed_round o (trees_of a.tree.now))
+  pub texts : AllZip (λ n t. IsTypeText a n.id t) (reverse (typed_at o (trees_of a.tree.now))) (map (λ t. t.type_text) types)
+  pub is : s ≡ types_or_none types
 
 -- what is said to a query at an offset of a text
 abbrev pub IsAnswered : Query → List ℕ → ℕ → said.Said → Type 0

@@ -5,7 +5,7 @@ use Rattle.std.specs.List.{list_any}
 use Rattle.token_model.specs.Kinds.{Tok}
 use Rattle.token_model.specs.Tokens.{Lex}
 use Rattle.query_model.specs.Faults.{TyperFault}
-use Rattle.service_model.specs.Structure.{faults_in}
+use Rattle.service_model.specs.Structure.{faults_in, TyperFaults}
 use Rattle.service_model.specs.Trials.{Mark, is_among, marks, same_mark}
 use Rattle.frame_steps.specs.declared.stack.SyntaxFault.{SyntaxFault}
 use Rattle.text_queries.specs.Faults.{fault_of}
@@ -27,9 +27,9 @@ HasMarks ms s = (m : code.Mark) → contains same_code s m ≡ list_any (same_co
 abbrev pub IsParserOf : List ℕ → List SyntaxFault → Type 0
 IsParserOf text faults = (tokens : List Tok) × Lex text tokens × (map fault_of faults ≡ faults_in tokens)
 
--- these marks are those of a text, for some faults of the typer
+-- these marks are those of a text, for faults that may be the typer's
 abbrev pub Knows : List ℕ → List code.Mark → Type 0
-Knows text keys = (tokens : List Tok) × (typed : List TyperFault) × Lex text tokens × ((m : code.Mark) → is_among (map mark_in keys) (mark_in m) ≡ is_among (marks tokens typed) (mark_in m))
+Knows text keys = (tokens : List Tok) × (typed : List TyperFault) × Lex text tokens × TyperFaults text typed × ((m : code.Mark) → is_among (map mark_in keys) (mark_in m) ≡ is_among (marks tokens typed) (mark_in m))
 
 -- the lesser of a place, if there is one, and another
 abbrev pub lesser : Option ℕ → ℕ → ℕ

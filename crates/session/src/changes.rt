@@ -3,9 +3,11 @@ ghost use Rattle.std.specs.Prelude.{◌≡◌, ◌≤◌, ◌∷◌, [], All, Li
 ghost use Rattle.text_terms.specs.Bytes.{str_bytes};
 ghost use Rattle.query_model.specs.TypedNodes.{innermost_at};
 ghost use Rattle.service_model.specs.Answers.{CasesBy, TermsBy};
+ghost use Rattle.service_model.specs.Structure.{TyperFaults};
 ghost use Rattle.service_model.specs.Replies as said;
 ghost use Rattle.syntax_tree.specs.Tallies.{Grows};
 ghost use Rattle.syntax_tree.specs.View.{trees_of};
+ghost use Rattle.text_queries.specs.Faults.{typer_fault_of};
 ghost use Rattle.json_lines.specs.Means.{said_of};
 ghost use Rattle.asked_node.specs.Trials.{AreReplaced};
 ghost use Rattle.construct_terms.specs.Terms.{IsAt};
@@ -110,6 +112,7 @@ pub fn cases(
     offset: u32,
 ) -> Result<Proposal, NoMemory>
     requires parsed { IsParsedAs store.now parsed.now }
+    requires typed { TyperFaults store.now (map typer_fault_of analysis.now.faults.now.list.items) }
     ensures answers { IfOk result (λ p. (s : said.Said) → IsSaidOf store.now p s → CasesBy store.now (innermost_at offset (trees_of parsed.now.tree)) s) }
     ensures fits { IfOk result (FitsText store.now) }
     ensures placed { IfOk result (λ p. All (IsPlaced (innermost_at offset (trees_of parsed.now.tree))) (changes_in p) × (length (changes_in p) ≤ 1)) }
@@ -180,6 +183,7 @@ pub fn terms_in(
     offset: u32,
 ) -> Result<Proposal, NoMemory>
     requires parsed { IsParsedAs store.now parsed.now }
+    requires typed { TyperFaults store.now (map typer_fault_of analysis.now.faults.now.list.items) }
     ensures answers { IfOk result (λ p. (s : said.Said) → IsSaidOf store.now p s → TermsBy store.now (innermost_at offset (trees_of parsed.now.tree)) s) }
     ensures fits { IfOk result (FitsText store.now) }
     ensures placed { IfOk result (λ p. All (IsPlaced (innermost_at offset (trees_of parsed.now.tree))) (changes_in p)) }

@@ -4,8 +4,10 @@ ghost use Rattle.query_model.specs.Prefixes.{is_name_prefix};
 ghost use Rattle.query_model.specs.TypedNodes.{innermost_at};
 ghost use Rattle.service_model.specs.Answers.{LocatedBy, UsedBy, shown_place};
 ghost use Rattle.service_model.specs.Replies as said;
+ghost use Rattle.service_model.specs.Structure.{TyperFaults};
 ghost use Rattle.service_model.specs.Completions.{CompletedBy};
 ghost use Rattle.syntax_tree.specs.View.{place_of, trees_of};
+ghost use Rattle.text_queries.specs.Faults.{typer_fault_of};
 ghost use Rattle.json_lines.specs.Means.{entry_kind_text, entry_of, failure_said, said_of, span_of};
 ghost use Rattle.session.specs.Changes.{is_said, FitsText, IsSaidAlone, IsSaidOf};
 ghost use Rattle.session.specs.Lines.{failure_in};
@@ -56,7 +58,9 @@ pub fn failure_of(fault: QueryFault) -> Result<Failure, NoMemory>
 
 /// What queries are asked of.
 pub fn asked<'a>(tree: &'a Tree, analysis: &Analysis<'a>) -> Asked<'a>
-    ensures { result.tree.now ≡ tree.now }
+    ensures tree { result.tree.now ≡ tree.now }
+    ensures index { result.index.now ≡ analysis.now.index.now }
+    ensures store { result.store.now ≡ analysis.now.store.now }
 {
     Asked {
         tree,
@@ -89,6 +93,7 @@ pub fn propose<A: Analyser>(
 ) -> Result<Proposal, NoMemory>
     requires parsed { IsParsedAs store.now parsed.now }
     requires found { IsOf A.items A.finds (trees_of parsed.now.tree) analysis.now }
+    requires typed { TyperFaults store.now (map typer_fault_of analysis.now.faults.now.list.items) }
     ensures answers { IfOk result (λ p. (s : said.Said) → IsSaidOf store.now p s → AnswersQuery query.now store.now offset (trees_of parsed.now.tree) s) }
     ensures fits { IfOk result (FitsText store.now) }
     ensures placed { IfOk result (ProposesAt query.now (innermost_at offset (trees_of parsed.now.tree))) }

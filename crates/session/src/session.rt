@@ -11,7 +11,7 @@ ghost use Rattle.tree_model.specs.Trees.{AreItemsSized};
 ghost use Rattle.plain_model.specs.Plain.{AllSeenWithin};
 ghost use Rattle.query_model.specs.Faults.{TyperFault, by_typer};
 ghost use Rattle.service_model.specs.Requests.{asks, reading, tell as tell_spec};
-ghost use Rattle.service_model.specs.Answers.{Answers, PlacedIs, EnclosingIs, TypesAre, tell_outcome, end_key, typed_among as typed_among_spec, typed_round, types_or_none};
+ghost use Rattle.service_model.specs.Answers.{Answers, PlacedIs, EnclosingIs, TypesAre, tell_outcome, end_key, typed_among as typed_among_spec, types_or_none};
 ghost use Rattle.work_model.specs.Work.{Amount, Owed, WorksAt};
 ghost use Rattle.syntax_tree.specs.Tallies.{Grows, Tallies};
 ghost use Rattle.syntax_tree.specs.View.{trees_of};
@@ -29,7 +29,7 @@ ghost use Rattle.text_reading.specs.Structures.{AreItemsOf};
 ghost use Rattle.asked_node.specs.Trials.{AreReplaced};
 ghost use Rattle.text_reading.specs.Types.{items_in};
 ghost use Rattle.session.specs.Changes.{candidates_in, changes_in, is_said, ArePlaced, AreSaidOf, FitsText, IsSaidOf};
-ghost use Rattle.session.specs.Queries.{AreFaultsOf, AreTypesRound, IsAnswered, IsNotPlain, MayBeIllTyped};
+ghost use Rattle.session.specs.Queries.{AreFaultsOf, AreTypesBy, AreTypesRound, IsAnswered, IsNotPlain, MayBeIllTyped};
 ghost use Rattle.session.specs.Lines.{line_bytes, refusal_in, IsWritten, RefusesBy, RefusesEditBy, RepliesBy, Says};
 ghost use Rattle.session.specs.Working.{alike, tries_texts, Carries, Owes, QuerySpends, QueryWorks, Reads, RequestWorks, Settles, Takes, TriesBy, TriesNone, TriesTexts, Types, TypesSome};
 
@@ -822,7 +822,7 @@ impl<A: Analyser> Session<A> {
         counts: &mut C,
     ) -> Result<Reply, NoMemory>
         requires of_text { AreItemsOf self.now.text (trees_of tree.now) }
-        ensures said { IfOk result (λ r. TypesAre self.now.text (typed_round offset (trees_of tree.now)) (said_of r)) }
+        ensures said { IfOk result (λ r. TypesAre self.now.text offset (trees_of tree.now) (said_of r)) }
         ensures idle { self.now.known ≡ true → C.tallies counts.new ≡ C.tallies counts.old }
         ensures counted { Grows (C.tallies counts.old) (C.tallies counts.new) }
     {
@@ -830,8 +830,9 @@ impl<A: Analyser> Session<A> {
         self.types_of(&asked(tree, &found.analysis()), offset)
     }
 
+    /// The types round an offset by what is asked, innermost first.
     fn types_of(&self, asked: &Asked<'_>, offset: u32) -> Result<Reply, NoMemory>
-        ensures { IfOk result (λ r. TypesAre self.now.text (typed_round offset (trees_of asked.now.tree.now)) (said_of r)) }
+        ensures { IfOk result (λ r. AreTypesBy self.now.text offset asked.now (said_of r)) }
     {
         match enclosing_types(self.alloc, asked, offset) {
             Ok(types) => Ok(types_reply(shown_types(self.alloc, self.text(), &types)?)),

@@ -6,6 +6,7 @@ ghost use Rattle.std.specs.HashSet.{keys};
 ghost use Rattle.text_terms.specs.Bytes.{str_bytes};
 ghost use Rattle.text_model.specs.Edits.{apply, text_limit};
 ghost use Rattle.query_model.specs.Faults.{by_typer};
+ghost use Rattle.service_model.specs.Structure.{TyperFaults};
 ghost use Rattle.service_model.specs.Trials.{FirstAdded, Fits, IsLeast, mark_of, moved, moved_mark, new_starts};
 ghost use Rattle.syntax_tree.specs.Tallies.{Grows};
 ghost use Rattle.syntax_tree.specs.View.{place_of};
@@ -35,7 +36,7 @@ struct Mark {
     kind: &'static str,
 }
 
-/// A text with the marks of its faults: those of the parser, and some of the typer.
+/// A text with the marks of its faults: those of the parser, and those that the typer found.
 #[derive(Drop)]
 pub struct MarkedText {
     text: Vec<u8>,
@@ -204,7 +205,7 @@ fn changed_text(
 }
 
 impl MarkedText {
-    /// A text with its faults: those of the parser, and some of the typer.
+    /// A text with its faults: those of the parser, and those that the typer found.
     pub fn new(
         alloc: Global,
         text: Vec<u8>,
@@ -212,6 +213,7 @@ impl MarkedText {
         typed: &[Fault],
     ) -> Result<MarkedText, NoMemory>
         requires parsed { IsParserOf text.items parsed.now }
+        requires typed { TyperFaults text.items (map typer_fault_of typed.now) }
         ensures { IfOk result (λ m. m.text.items ≡ text.items) }
     {
         let marks = marks_of(alloc, parsed, typed)?;

@@ -51,6 +51,7 @@ types_told {b = b} sound only = record {
   level = only.level;
   types = only.types;
   noted = only.noted;
+  scopes = only.scopes;
   refines = λ K own. subst (λ ns. Refines ns b.nodes K) only.nodes (refines_none b.nodes K own);
   reads = λ V h. subst (λ ns. IsReading ns V) only.nodes h;
 }
@@ -96,7 +97,7 @@ told_new a b at name false aloud same = ap reports_of same
 pub names_between : (a b : Parts) (number : ℕ) (seen : Record) → Noted a.telling a b number seen → seen.ty ≡ None → OnlyIndex a b → OnlyBetween (sight a) (sight b)
 names_between a b number seen noted none rest =
     let only = untyped_noted a b number seen none noted rest in
-    record { nodes = only.nodes; types = only.types; noted = only.noted; reports = ap (λ f. (sight (record a { faults = f })).reports) rest.faults; aloud = only.aloud; level = only.level; fixed = only.fixed }
+    record { nodes = only.nodes; types = only.types; noted = only.noted; scopes = only.scopes; reports = ap (λ f. (sight (record a { faults = f })).reports) rest.faults; aloud = only.aloud; level = only.level; fixed = only.fixed }
 
 either_first : (a b c : Bool) → (if a then true else (b || c)) ≡ (b || (if a then true else c))
 either_first true true c = refl

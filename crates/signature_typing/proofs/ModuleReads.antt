@@ -16,7 +16,6 @@ use Rattle.typing_model.specs.Records.{is_among}
 use Rattle.syntax_tree.specs.declared.Token.{Token}
 use Rattle.syntax_tree.specs.declared.rows.RowName.TheVariants as name
 use Rattle.syntax_tree.specs.declared.tree.Node.{Node, out-Node}
-use Rattle.syntax_tree.specs.View as view
 use Rattle.syntax_tree.specs.View.{node_view, tok_of}
 use Rattle.row_parts.specs.declared.slots.Operand.{Operand}
 use Rattle.row_parts.specs.Numbered.{part_of, operands_in, filled_in, token_in, operand_view}

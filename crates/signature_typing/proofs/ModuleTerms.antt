@@ -1,5 +1,5 @@
 -- The item of the definitions that a module of a signature of values is, by its operands.
-use Rattle.std.proofs.Common.{◌≡◌, ◌∙◌, ℕ, ◌+◌, true, List, [], ◌∷◌, ◌++◌, map, filter_map, Option, Some, None, refl, ap}
+use Rattle.std.proofs.Common.{◌≡◌, ◌∙◌, ℕ, true, List, [], ◌∷◌, ◌++◌, map, filter_map, Option, Some, None, refl, ap}
 use Rattle.std.specs.List.{cons_option}
 use Rattle.tree_model.specs.Rows.{ysig_row}
 use Rattle.tree_model.specs.Slots.{is_operand}

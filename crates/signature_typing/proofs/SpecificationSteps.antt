@@ -9,7 +9,6 @@ use Rattle.typing_model.specs.Items.{items_ask}
 use Rattle.typing_model.specs.Parts.{Seen, no_names, seen_too}
 use Rattle.syntax_tree.specs.declared.rows.RowName.TheVariants as name
 use Rattle.syntax_tree.specs.declared.tree.Node.{Node, out-Node}
-use Rattle.syntax_tree.specs.Names as names
 use Rattle.syntax_tree.specs.View.{node_view, place_of}
 use Rattle.row_parts.specs.declared.slots.Operand.{Operand}
 use Rattle.row_parts.specs.Numbered.{Numbered, numbered, part_of, operand_view}
@@ -171,7 +170,7 @@ specifications_start a env s all same none G E carried aloud at constants older 
   items = [];
   given = record {
     names = no_names;
-    added = subst (λ es. ItemsAdded E [] no_names no_names a a G es) (sym same) (items_added_none no_names (record { nodes = refl; types = λ i p. refl; noted = λ i p h. h; reports = refl; aloud = refl; level = refl; fixed = refl }) at constants older);
+    added = subst (λ es. ItemsAdded E [] no_names no_names a a G es) (sym same) (items_added_none no_names (record { nodes = refl; types = λ i p. refl; noted = λ i p h. h; scopes = λ i p env h. h; reports = refl; aloud = refl; level = refl; fixed = refl }) at constants older);
     standing = record { types = λ n. none kind.TypeName n; modules = λ n. none kind.Module n; module_types = λ n. none kind.ModuleType n };
   };
   splits = refl;

@@ -79,7 +79,7 @@ one_standing {old} {new} {seen} name one standing = record {
 }
 
 same_state : (a : Parts) → OnlyBetween (sight a) (sight a)
-same_state a = record { nodes = refl; types = λ i p. refl; noted = λ i p h. h; reports = refl; aloud = refl; level = refl; fixed = refl }
+same_state a = record { nodes = refl; types = λ i p. refl; noted = λ i p h. h; scopes = λ i p env h. h; reports = refl; aloud = refl; level = refl; fixed = refl }
 
 -- The call: the item's node is noted, its names are asked, and then its declarations are declared, and are in scope.
 pub type_group_given : {A F : Type 0} (r : Result A F) (a b c d : Parts) (s s1 s2 s3 : Scene) (n : ℕ) (t : Tree) (names : List (Bor Token)) (declared : Declared) → NotedNameless a b n s.env None → OnlyIndex a b → Goes a b →

@@ -23,6 +23,7 @@ use Rattle.typing_steps.specs.States.{is_aloud, sight, fixed_of}
 use Rattle.typing_steps.specs.Typing.{as_declared}
 use Rattle.typing_steps.proofs.Starting.{constants_kept}
 use Rattle.typing_rows.specs.Noted.{AreNoted}
+use Rattle.binding_rows.proofs.ItemKinds.{still_scoped}
 use Rattle.typing_rows.proofs.Noted.{still_noted}
 use Rattle.declared_rows.proofs.Continuing.{fits_declared}
 use Rattle.binding_rows.specs.ItemRows.{AreDeclared}
@@ -48,10 +49,10 @@ module _ (a b : Parts) {G : Letters} {env : List Entry} {E : Choice → Environm
 
   on_types : OnlyTypes (sight a) (sight b)
   on_types = whole_types (sight b) at (own_types a at constants) (own_at a at constants) (exn_node a at constants) (exn_inside a at constants) (exn_closed a at constants) refl z.to.on (r ∷ []) (one_denotes z.to.on z.settled.type z.to.denotes) z.closes z.plain z.sound z.level
-      (record { types = untyped.types; noted = still_noted goes })
+      (record { types = untyped.types; noted = still_noted goes; scopes = still_scoped goes })
 
   next_starts : IsKnown z.settled.type → StartsAfter at (sight b) G (y ∷ []) (named_entry ∷ []) z.numbers
-  next_starts known = outside_value (sight b) at (own_types a at constants) (own_at a at constants) (exn_node a at constants) (exn_inside a at constants) (exn_closed a at constants) refl z.to.on z.settled.type known z.to.denotes z.closes z.plain z.sound z.level (record { types = untyped.types; noted = still_noted goes })
+  next_starts known = outside_value (sight b) at (own_types a at constants) (own_at a at constants) (exn_node a at constants) (exn_inside a at constants) (exn_closed a at constants) refl z.to.on z.settled.type known z.to.denotes z.closes z.plain z.sound z.level (record { types = untyped.types; noted = still_noted goes; scopes = still_scoped goes })
       y named_entry is.cell is.what is.root (sym is.name) (sym (ap kind_of is.kind)) refl
 
   -- the entry that it adds
@@ -85,6 +86,7 @@ module _ (a b : Parts) {G : Letters} {env : List Entry} {E : Choice → Environm
           env = λ ch. named_entry ∷ E ch;
           carried = items_treated N carried;
           clear = λ k placed. absurd k;
+          sees = λ k. absurd k;
           knows = λ k. absurd k;
           owners = treated_owned N carried (settled_owned at on_types (own_types a at constants) (own_at a at constants) names z.settled.settled (λ c. written.read (record c { variables = parameters names })) (λ c. refl) z.settled.reports (ap is_aloud goes.telling) (ap fixed_of goes.constants)
               (λ V fits. fits_declared (frame_declares a at constants) z.to.on.assigns z.closes V fits) N (recorded_value a.item n t) declared);

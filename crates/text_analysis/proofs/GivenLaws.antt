@@ -1,5 +1,5 @@
 -- Items that are typed one after the other.
-use Rattle.std.proofs.Common.{◌≡◌, ◌∙◌, ℕ, ◌+◌, true, List, [], ◌∷◌, ◌++◌, length, Some, None, refl, sym, ap, subst, append_assoc, append-nil, arith}
+use Rattle.std.proofs.Common.{◌≡◌, ◌∙◌, ℕ, ◌+◌, true, List, [], ◌∷◌, ◌++◌, length, Some, None, option_map, refl, sym, ap, subst, append_assoc, append-nil, arith}
 use Rattle.tree_model.specs.Trees.{Tree, inner}
 use Rattle.type_model.specs.Types.{Typ}
 use Rattle.signature_model.specs.Entries.{Environment}
@@ -14,6 +14,7 @@ use Rattle.typing_model.specs.Parts.{no_names, Item}
 use Rattle.row_parts.specs.Numbered.{node_with}
 use Rattle.env_table.specs.declared.entries.Entry.{Entry}
 use Rattle.env_table.specs.declared.entries.Kind.TheVariants as kind
+use Rattle.env_table.specs.declared.seen.Seen.{Seen}
 use Rattle.typing_state.specs.declared.parts.Parts.{Parts}
 use Rattle.typing_steps.specs.States.{is_aloud, sight, type_in, is_noted, reports_of, fixed_of}
 use Rattle.typing_steps.specs.Constants.{HasConstants, HasType}
@@ -85,6 +86,7 @@ between_alike alike telling level = record {
   nodes = alike.nodes;
   types = λ i p. ap type_in (alike.index i p);
   noted = λ i p h. ap is_noted (alike.index i p) ∙ h;
+  scopes = λ i p env h. ap (option_map (λ (x : Seen). x.env)) (alike.index i p) ∙ h;
   reports = ap reports_of alike.faults;
   aloud = telling;
   level = level;

@@ -26,3 +26,5 @@ mod Silent
 mod Sorts
 -- Calls that type items.
 mod TypedLaws
+-- What is recorded for expressions and patterns.
+mod TypedNodes

@@ -138,12 +138,12 @@ reports_stand (f ∷ fs) = ap (λ b. if b then standing (map api.typer_fault_of 
     by false others = ap (λ rs. refused_at (report_of f) ∷ rs) others
 
 -- no item is too large
-are_small : (ts : List Tree) → All (λ t. size_of t < 2 ^ 32) ts → AreSmall ts
+pub are_small : (ts : List Tree) → All (λ t. size_of t < 2 ^ 32) ts → AreSmall ts
 are_small [] few = tt
 are_small (t ∷ ts) few = (let lt = All-head (λ u. size_of u < 2 ^ 32) t ts few in omega arith, are_small ts (All-tail (λ u. size_of u < 2 ^ 32) t ts few))
 
 -- items that are `let` and `;;` alone leave it open to say that all is known of names
-all_keep : (ts : List Tree) → has_lets_alone ts ≡ true → AllKeep (operands_of ts)
+pub all_keep : (ts : List Tree) → has_lets_alone ts ≡ true → AllKeep (operands_of ts)
 all_keep [] e = tt
 all_keep (node r x ps ∷ ts) e = let (first, others) = and_cases (is_let_row r) (has_lets_alone ts) e in (by r first, all_keep ts others)
   where
@@ -153,7 +153,7 @@ all_keep (node r x ps ∷ ts) e = let (first, others) = and_cases (is_let_row r)
     by _ h = absurd (no_yes h)
 
 -- Numbers in an item are below 2^32.
-all_placed : (at : Parts) → ArePlaced (sight at)
+pub all_placed : (at : Parts) → ArePlaced (sight at)
 all_placed at = record {
   noted = λ i p h. noted_low i p (seen_at at.index i p) refl h;
   recorded = λ i p m e. typed_low i p m (seen_at at.index i p) refl e;
@@ -175,7 +175,7 @@ items_refused {first} {env} {items} {last} {now} given o plain names is_first t 
     let noted : AreNoted outside.older first = subst (λ U. AreNoted U first) (sym at.starts.older) at.noted in
     let done = (given [] (λ ch. names) (lets_are_carried items t) o.aloud outside at.constants noted).done in
     let sure = done.clear (at.known, all_keep items t.lets) (all_placed last) in
-    let (h, principal) = sure_principal {env = names} {text = items} done.carried done.owners at.untyped outside.sound t.lets (are_small items t.few) (plain_nodes last.store.nodes plain) sure (all_placed last) in
+    let (h, principal, own, alike) = sure_principal {env = names} {text = items} done.carried done.owners at.untyped outside.sound t.lets (are_small items t.few) (plain_nodes last.store.nodes plain) sure (all_placed last) in
     let orderly = lets_orderly {env = names} {text = items} t.lets in
     let meets = met h in
     record {

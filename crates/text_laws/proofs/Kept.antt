@@ -9,7 +9,7 @@ use Rattle.typing_model.specs.Typings.{outermost, conditions_of, no_choice, dema
 use Rattle.type_nodes.proofs.Identity.{identity, identity_fits}
 use Rattle.typing_laws.proofs.Bools.{no_yes}
 use Rattle.typing_conditions.specs.Sights.{Sight, Letters}
-use Rattle.typing_conditions.specs.Judging.{Judgement, judged_at, judgements, AreKept, FallsShort, Meets}
+use Rattle.typing_conditions.specs.Judging.{Judgement, judged_at, judgements, AreKept, FallsShort, AnySeen, Meets}
 use Rattle.typing_conditions.proofs.Judged.{kept_left, kept_right, hold_first, judged_kept}
 use Rattle.typing_conditions.proofs.Adequate.{first_up_to}
 use Rattle.binding_rows.specs.Outside.{EntersItems}
@@ -46,7 +46,7 @@ module _ {env : Environment} {text : List Tree} {kept : Site → Bool} {a b : Si
   context k ch = outermost env k ch
 
   -- what was judged, at the choice that is read off
-  pub met : Meets kept (conditions_of env text kept h.choice) h.carried.judged h.carried.told
+  pub met : Meets AnySeen kept (conditions_of env text kept h.choice) h.carried.judged h.carried.told
   met = h.carried.sound h.types (context kept h.choice) h.reads
 
   -- each choice enters the state before the text

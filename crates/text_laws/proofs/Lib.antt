@@ -7,3 +7,4 @@ pub mod General
 pub mod Reading
 pub mod Principal
 pub mod Silent
+pub mod Typed

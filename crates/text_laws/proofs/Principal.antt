@@ -132,17 +132,17 @@ text_principal {env} {text} {kept} {a} {b} {G} h own_types read = record {
               ∙ ap (λ (ch : Choice). apply (gives (length b.nodes) goes.types fits.choice) (ch.type_at n)) (sym read),
         )
 
--- So the types that a text of `let` and `;;` was found to have are a principal typing of it, with the demands that were kept, where doubtful letters have one type for one thing at the nodes' own types.
+-- So the types that a text of `let` and `;;` was found to have are a principal typing of it, with the demands that were kept, where doubtful letters have one type for one thing at the nodes' own types. They are those types, and what was carried is what was given.
 pub lets_principal : {env : Environment} {text : List Tree} {a b : Sight} {G : Letters} (p : ItemsCarried (λ ch. env) (text_asks text) a [] b G) → AreOwned (items_of text) p.left → ((i k : ℕ) → a.types i k ≡ None) → IsSound a.nodes → has_lets_alone text ≡ true → AreSmall text → IsPlain b.nodes →
-    (J : Types) → IsOwn b.nodes J → DoubtfulAreOne J b (letters_left p.left) → (h : IsTyped env text (kept_of p.judged) a b G) × IsPrincipal env text (kept_of p.judged) h.choice.type_at
+    (J : Types) → IsOwn b.nodes J → DoubtfulAreOne J b (letters_left p.left) → (h : IsTyped env text (kept_of p.judged) a b G) × IsPrincipal env text (kept_of p.judged) h.choice.type_at × IsOwn b.nodes h.types × (h.carried ≡ p)
 unfolding lets_typed text_typed
 lets_principal {env} {text} {b = b} {G = G} p owned none sound lets small plain J own rest =
     let h = lets_typed {env = env} {text = text} p owned none sound lets small J (own_reads b.nodes J own) (own.known plain) rest in
-    (h, text_principal {env = env} {text = text} h own refl)
+    (h, text_principal {env = env} {text = text} h own refl, own, refl)
 
 -- The same where none is doubtful: nothing is asked of types then.
 pub sure_principal : {env : Environment} {text : List Tree} {a b : Sight} {G : Letters} (p : ItemsCarried (λ ch. env) (text_asks text) a [] b G) → AreOwned (items_of text) p.left → ((i k : ℕ) → a.types i k ≡ None) → IsSound a.nodes → has_lets_alone text ≡ true → AreSmall text → IsPlain b.nodes →
-    NoneDoubtful (letters_left p.left) → ArePlaced b → (h : IsTyped env text (kept_of p.judged) a b G) × IsPrincipal env text (kept_of p.judged) h.choice.type_at
+    NoneDoubtful (letters_left p.left) → ArePlaced b → (h : IsTyped env text (kept_of p.judged) a b G) × IsPrincipal env text (kept_of p.judged) h.choice.type_at × IsOwn b.nodes h.types × (h.carried ≡ p)
 sure_principal {env} {text} {b = b} p owned none sound lets small plain sure placed =
     let (J, own) = own_of b.nodes (p.stays.sound sound) in
     lets_principal {env = env} {text = text} p owned none sound lets small plain J own (none_doubted J (letters_left p.left) sure placed)

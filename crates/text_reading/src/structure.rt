@@ -11,7 +11,7 @@ ghost use Rattle.text_queries.specs.Outlines.{member_of};
 ghost use Rattle.text_queries.specs.Faults.{listed_of};
 ghost use Rattle.query_engine.specs.Typed.{span_of};
 ghost use Rattle.json_lines.specs.Means.{fault_of, outline_of, outlined_of, typed_of};
-ghost use Rattle.text_reading.specs.Structures.{parsed_in, IsParsedAs};
+ghost use Rattle.text_reading.specs.Structures.{parsed_in, type_text_of, IsParsedAs};
 
 use frame_parser::{Parsed, Text, parse};
 use kept_text::KeptText;
@@ -165,7 +165,8 @@ pub fn shown_faults(
 
 /// A typed node with the positions of the store's text.
 fn shown_type(store: &TextStore, typed: &engine::Typed) -> Result<json_lines::Typed, NoMemory>
-    ensures { IfOk result (λ t. start_and_end (typed_of t) ≡ shown_place store.now (span_of typed.now)) }
+    ensures place { IfOk result (λ t. start_and_end (typed_of t) ≡ shown_place store.now (span_of typed.now)) }
+    ensures text { IfOk result (λ t. (typed_of t).type_text ≡ type_text_of typed.now) }
 {
     Ok(json_lines::Typed {
         start: position(store, typed.span.start),
@@ -180,7 +181,8 @@ pub fn shown_types(
     store: &TextStore,
     types: &[engine::Typed],
 ) -> Result<Vec<json_lines::Typed>, NoMemory>
-    ensures { IfOk result (λ v. map start_and_end (map typed_of v.items) ≡ map (shown_place store.now) (map span_of types.now)) }
+    ensures places { IfOk result (λ v. map start_and_end (map typed_of v.items) ≡ map (shown_place store.now) (map span_of types.now)) }
+    ensures texts { IfOk result (λ v. map (λ t. t.type_text) (map typed_of v.items) ≡ map type_text_of types.now) }
 {
     let mut shown = Vec::new(alloc);
     for typed in types {

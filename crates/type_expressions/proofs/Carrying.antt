@@ -32,7 +32,7 @@ use Rattle.typing_state.specs.Types.{MakesVar, any_scope}
 use Rattle.typing_conditions.proofs.Carried.{carried_trans, carried_as, done_as, done_then, done_last}
 use Rattle.typing_conditions.specs.Sights.{own, number_in}
 use Rattle.typing_conditions.proofs.Meaning.{means_on}
-use Rattle.typing_conditions.proofs.Surrounding.{surrounds_on}
+use Rattle.typing_conditions.proofs.Surrounding.{surrounds_on, surrounds_sees}
 use Rattle.typing_steps.specs.States.{is_aloud}
 use Rattle.typing_steps.specs.Typing.{AsksEqual}
 use Rattle.typing_steps.proofs.Still.{plain_noted}
@@ -59,13 +59,13 @@ part_read i n at (inner t) c formed = node_term i n at t formed c
 part_read i n at (missing q) c formed = refl
 
 -- a type expression, once its node is recorded
-pub operand_reads : (a b d : Parts) (env : List Entry) (o : Operand) (m : ℕ) (seen : Seen) → Goes a b → ReadsPart a b env o.number (place_of o.span) (part_of o.node o.span) m → seen.ty ≡ None → Noted b.telling b d o.number seen → OnlyIndex b d → ReadsOperand a d env (operand_view o) m
-operand_reads a b d env o m seen goes read none noted rest operand =
+pub operand_reads : (a b d : Parts) (env : List Entry) (o : Operand) (m : ℕ) (seen : Seen) → Goes a b → ReadsPart a b env o.number (place_of o.span) (part_of o.node o.span) m → seen.ty ≡ None → seen.env ≡ env → Noted b.telling b d o.number seen → OnlyIndex b d → ReadsOperand a d env (operand_view o) m
+operand_reads a b d env o m seen goes read none in_scope noted rest operand =
     let n = number_of a.item o.number in
     let asks : Context → List _ = λ c. part_asks a.item o.number (place_of o.span) (part_of o.node o.span) c in
     subst (λ k. ReadsTo a d env (λ c. (type_of a.item (operand_view o)).read c) k m) (sym (type_of_stands a.item (operand_view o)).number)
     (reads_to_as a d env (λ c. tell n c ++ asks c) (λ c. (type_of a.item (operand_view o)).read c) n m (λ c. part_read a.item o.number (place_of o.span) (part_of o.node o.span) c operand.formed)
-    (noted_reads a b d env asks n m o.number seen none (ap (λ i. number_in i o.number) goes.item) goes (read operand.formed operand.placed) noted rest))
+    (noted_reads a b d env asks n m o.number seen none in_scope (ap (λ i. number_in i o.number) goes.item) goes (read operand.formed operand.placed) noted rest))
 
 -- a type expression that is missing
 pub missing_reads : (a b : Parts) (env : List Entry) (o : Operand) (m : ℕ) → o.node ≡ None → MakesVar a b m any_scope → OnlyStore a b → ReadsPart a b env o.number (place_of o.span) (part_of o.node o.span) m
@@ -180,7 +180,7 @@ several_reads a b d env o os ms some noted only goes read operand =
     let h = several_operand a.item o os some operand.formed in
     let all = subst (λ i. ReadsAll b d env (λ c. read_all c (types_read i os)) (nodes_of (types_read i os)) ms) goes.item (read h.operands) in
     subst (λ ns. ReadsAll a d env (λ c. (type_of a.item o).grouped_read c) ns ms) (sym h.nodes) (λ aloud F scope G s.
-    let first = plain_noted a b {F = F} {scope = scope} {G = G} o.number env (number_of a.item o.number) (λ c. c.env) noted only in
+    let first = plain_noted a b {F = F} {scope = scope} {G = G} o.number env (number_of a.item o.number) refl aloud noted only (surrounds_sees s) in
     let z = all (first.stays.aloud ∙ aloud) F scope G (surrounds_on first.stays s) in
     let both = carried_trans first z.carried in
     record { letters = z.letters; carried = carried_as (λ c. sym (h.asks c)) both; done = done_as (λ c. sym (h.asks c)) both (done_last first z.carried z.done); means = z.means })

@@ -1,15 +1,11 @@
--- Texts of one byte a character, and their cuts.
-use Rattle.std.proofs.Common.{◌≡◌, ℕ, zero, suc, ◌<◌, ◌≤◌, false, List, [], ◌∷◌, ◌++◌, length, take, get_or, codes, sym, ap, ◌∙◌, arith, ◌⊎◌, inl, inr}
+-- Cuts of texts, and texts of one byte a character.
+use Rattle.std.proofs.Common.{◌≡◌, ℕ, zero, suc, ◌<◌, ◌≤◌, false, List, [], ◌∷◌, ◌++◌, length, take, get_or, codes, sym, ap, subst, ◌∙◌, arith, ◌⊎◌, inl, inr}
 use Rattle.std.specs.Prelude.{nat_le, if◌then◌else◌}
 use Rattle.std.specs.Str.{IsCharBoundary}
-use Rattle.std.proofs.lemmas.List.{take-append-le, length-append, append-nil}
+use Rattle.std.proofs.lemmas.List.{take-append-le, length-append, append-nil, get_or_append_left}
 use Rattle.std.proofs.lemmas.Bool.Decides.{nat_tests}
 use Rattle.type_print_model.specs.Printing.{cut, most_shown}
 use Rattle.type_print.specs.Texts.{IsAscii, IsCuttable}
-
-pub ascii_left : (xs ys : List ℕ) → IsAscii (xs ++ ys) → IsAscii xs
-ascii_left [] ys h = tt
-ascii_left (x ∷ xs) ys h = (h.0, ascii_left xs ys h.1)
 
 ascii_at : (xs : List ℕ) (i : ℕ) → IsAscii xs → i < length xs → get_or xs i 0 < 128
 ascii_at [] i h lt = absurd (omega arith)
@@ -39,6 +35,20 @@ cut_long xs h = rw (over (length xs) most_shown h)
 
 pub ascii_cuttable : (xs : List ℕ) → IsAscii xs → IsCuttable xs
 ascii_cuttable xs h long = ascii_boundary xs most_shown h (omega arith)
+
+-- a place in the front of a text is one between characters if it is one in the whole: the byte there is the same
+front_boundary : (m : ℕ) (xs ys : List ℕ) → m < length xs → IsCharBoundary (xs ++ ys) m → IsCharBoundary xs m
+front_boundary m xs ys long h =
+    let e : get_or (xs ++ ys) m 0 ≡ get_or xs m 0 = get_or_append_left xs ys 0 m long in
+    let l = length-append xs ys in
+    (omega arith, λ lt ge. subst (λ b. 192 ≤ b) e (h.1 (omega arith) (subst (λ b. 128 ≤ b) (sym e) ge)))
+
+-- what was written can be cut where the whole can
+pub cuttable_front : (xs ys whole : List ℕ) → xs ++ ys ≡ whole → IsCuttable whole → IsCuttable xs
+cuttable_front xs ys whole e h long =
+    let l = length-append xs ys in
+    let all : IsCuttable (xs ++ ys) = subst IsCuttable (sym e) h in
+    front_boundary most_shown xs ys long (all (omega arith))
 
 -- what was written, and what is left: nothing, or the text is too long
 pub cut_whole : (xs ys whole : List ℕ) → xs ++ ys ≡ whole → (ys ≡ []) ⊎ (most_shown < length xs) → cut xs ≡ cut whole

@@ -664,8 +664,8 @@ named_right env o n declared e = elim (opt_tells (way_among o (([], env) ∷ [])
 
 -- With these names of variables and of what the search finds, a text is that of the definition.
 pub printed_by : (nodes : List Node) (env : List Entry) (weak all : List ℕ) (t : Typ) (text : List ℕ) → PrintsWith nodes env (variable_name weak all) t text → PrintsBy nodes env weak all t text
-printed_by nodes env weak all t text prints declared declares ascii = record {
+printed_by nodes env weak all t text prints declared declares cuttable = record {
   origin = λ o. name_in env o (declared o);
   named = λ o h. named_right env o (declared o) declared refl;
-  text = prints (record { variable = variable_name weak all; origin = λ o. name_in env o (declared o) }) (λ v. refl) (λ n p name ms e. ap (name_in env p) (declares n p name ms e)) ascii;
+  text = prints (record { variable = variable_name weak all; origin = λ o. name_in env o (declared o) }) (λ v. refl) (λ n p name ms e. ap (name_in env p) (declares n p name ms e)) cuttable;
 }

@@ -3,6 +3,7 @@ pub mod Weights
 pub mod Numbers
 pub mod Searching
 pub mod Known
+pub mod Mentioned
 pub mod Ascii
 pub mod Texts
 pub mod Ranks
@@ -10,3 +11,4 @@ pub mod Meeting
 pub mod Named
 pub mod Makers
 pub mod Levels
+pub mod Inside

@@ -9,8 +9,10 @@ use Rattle.type_print_model.specs.Printing.{Names, Within, text_of, separated, r
 use Rattle.env_table.specs.declared.entries.Entry.{Entry}
 use Rattle.type_print.specs.declared.variables.VariableName.TheVariants as name
 use Rattle.type_print.specs.declared.variables.Variables.{Variables}
+use Rattle.type_print.specs.declared.printing.Known.{Known}
 use Rattle.type_print.specs.Meeting.{is_weak, has_letter, AreAmong, met_of, AreNamed}
-use Rattle.type_print.specs.Texts.{name_text, variable_text, PrintsWith, IsAscii}
+use Rattle.type_print.specs.Texts.{name_text, variable_text, PrintsWith, KnownAre, AreKnown, Writes, IsCuttable}
+use Rattle.type_print.proofs.Known.{known_so}
 
 -- two ways to name variables agree on these
 abbrev Agree : (ℕ → List ℕ) → (ℕ → List ℕ) → List ℕ → Type 0
@@ -79,9 +81,18 @@ met_agree : (nodes : List Node) (weak all : List ℕ) (vs : Variables) (f : ℕ 
 met_agree nodes weak all vs f [] named is h = tt
 met_agree nodes weak all vs f (u ∷ us) named is h = (met_text nodes weak all vs u named h.0 ∙ sym (is u), met_agree nodes weak all vs f us named is h.1)
 
--- what is printed with the names of those that were met is printed with the names of their places
-pub printed_so : (nodes : List Node) (env : List Entry) (weak all : List ℕ) (vs : Variables) (t : Typ) (text : List ℕ) → AreNamed nodes weak all (met_of vs) → AreAmong all (variables_of t) →
-    PrintsWith nodes env (variable_text vs) t text → PrintsWith nodes env (variable_name weak all) t text
-printed_so nodes env weak all vs t text named among prints ns variable origin ascii =
+-- what is written with the names of those that were met is written with the names of their places
+pub spoken : (nodes : List Node) (weak all : List ℕ) (vs : Variables) (old new : List Known) (t : Typ) (text : List ℕ) → AreNamed nodes weak all (met_of vs) → AreAmong all (variables_of t) → Writes vs old new t text →
+    (ns : Names) → ((v : ℕ) → ns.variable v ≡ variable_name weak all v) → KnownAre ns.origin new → IsCuttable (text_of ns alone t) → text ≡ cut (text_of ns alone t)
+spoken nodes weak all vs old new t text named among writes ns variable origin cuttable =
     let same : text_of (names_by ns.origin (variable_text vs)) alone t ≡ text_of ns alone t = same_text ns.origin (variable_text vs) ns.variable alone t (met_agree nodes weak all vs ns.variable (variables_of t) named variable among) in
-    prints (names_by ns.origin (variable_text vs)) (λ v. refl) origin (subst IsAscii (sym same) ascii) ∙ ap cut same
+    (writes (names_by ns.origin (variable_text vs)) (record { variable = λ v. refl; origin = origin })).1 (subst IsCuttable (sym same) cuttable) ∙ ap cut same
+
+-- names of origins that agree with what is named later agree with what was named before
+pub known_before : (vs : Variables) (old new : List Known) (t : Typ) (text : List ℕ) → Writes vs old new t text → (f : Path → List ℕ) → KnownAre f new → KnownAre f old
+known_before vs old new t text writes f origin = (writes (names_by f (variable_text vs)) (record { variable = λ v. refl; origin = origin })).0.origin
+
+-- what is written so is printed with each naming that agrees with all nodes
+pub printed_so : (nodes : List Node) (env : List Entry) (weak all : List ℕ) (vs : Variables) (old new : List Known) (t : Typ) (text : List ℕ) → AreNamed nodes weak all (met_of vs) → AreAmong all (variables_of t) →
+    AreKnown nodes env new → Writes vs old new t text → PrintsWith nodes env (variable_name weak all) t text
+printed_so nodes env weak all vs old new t text named among known writes ns variable origin = spoken nodes weak all vs old new t text named among writes ns variable (known_so nodes env ns.origin origin new known)

@@ -1,6 +1,6 @@
 //! The text of a type.
 ghost use Rattle.std.specs.Prelude.{◌≡◌, All, OnOk};
-ghost use Rattle.std.specs.Prelude.{◌++◌, ◌∷◌, [], List, ℕ, string_bytes, IfOk, IfSome, option_map, Option};
+ghost use Rattle.std.specs.Prelude.{◌++◌, ◌∷◌, [], List, ℕ, false, Option, None, string_bytes, IfOk, IfSome, option_map};
 ghost use Rattle.text_terms.specs.Bytes.{str_bytes};
 ghost use Rattle.type_model.specs.Types.{Path};
 ghost use Rattle.type_terms.specs.Views.{path_of};
@@ -8,8 +8,8 @@ ghost use Rattle.type_print_model.specs.Variables.{letter_name, variable_name, v
 ghost use Rattle.type_print_model.specs.Printing.{Names, text_of, cut, alone};
 ghost use Rattle.type_print.specs.Shown.{shown};
 ghost use Rattle.type_print.specs.Paths.{name_in};
-ghost use Rattle.type_print.specs.Texts.{name_text, variable_text, PrintsWith, PrintsBy, KnownAre, Speaks, said, IsAscii};
-ghost use Rattle.type_nodes.specs.Nodes.{IsNode, IsSound};
+ghost use Rattle.type_print.specs.Texts.{name_text, PrintsWith, PrintsBy, PrintsIn, PrintsTwoIn, KnownAre, AreKnown, IsDeclared, IsLast, is_known, Speaks, Writes, said};
+ghost use Rattle.type_nodes.specs.Nodes.{Node, IsNode, IsSound};
 ghost use Rattle.type_nodes.specs.Views.{numbers};
 ghost use Rattle.type_print.specs.Meeting.{roots_of};
 ghost use Rattle.type_print.specs.Pieces.{parts_of, part_of, opened, IsPart};
@@ -36,14 +36,15 @@ pub fn print_type(
     requires weak { All (IsNode store.now.nodes) (numbers weak.now) }
     ensures text { IfOk result (λ r. PrintsWith store.now.nodes env.now (variable_name (roots_of store.now.nodes (numbers weak.now)) (variables_of (shown store.now.nodes n.0))) (shown store.now.nodes n.0) (str_bytes r)) }
     ensures defined { IfOk result (λ r. PrintsBy store.now.nodes env.now (roots_of store.now.nodes (numbers weak.now)) (variables_of (shown store.now.nodes n.0)) (shown store.now.nodes n.0) (str_bytes r)) }
+    ensures inside { IfOk result (λ r. PrintsIn store.now.nodes env.now (roots_of store.now.nodes (numbers weak.now)) (variables_of (shown store.now.nodes n.0)) (shown store.now.nodes n.0) (str_bytes r)) }
 {
     let mut variables = Variables::new(alloc, store, weak)?;
     variables.meet(alloc, store, n)?;
-    let text = text_of(alloc, store, n, env, &variables)?;
+    let (text, _) = text_of(alloc, store, n, env, &variables, Vec::new(alloc))?;
     Ok(text)
 }
 
-/// The texts of two types that share the names of their variables, the first type first.
+/// The texts of two types that share the names of their variables, the first type first, and of their origins.
 pub fn print_two(
     alloc: Global,
     store: &Store,
@@ -57,12 +58,13 @@ pub fn print_two(
     ensures second { IfOk result (λ r. PrintsWith store.now.nodes env.now (variable_name [] (variables_of (shown store.now.nodes first.0) ++ variables_of (shown store.now.nodes second.0))) (shown store.now.nodes second.0) (str_bytes r.1)) }
     ensures defined { IfOk result (λ r. let all = variables_of (shown store.now.nodes first.0) ++ variables_of (shown store.now.nodes second.0) in
         PrintsBy store.now.nodes env.now [] all (shown store.now.nodes first.0) (str_bytes r.0) × PrintsBy store.now.nodes env.now [] all (shown store.now.nodes second.0) (str_bytes r.1)) }
+    ensures inside { IfOk result (λ r. PrintsTwoIn store.now.nodes env.now (shown store.now.nodes first.0) (shown store.now.nodes second.0) (str_bytes r.0) (str_bytes r.1)) }
 {
     let mut variables = Variables::new(alloc, store, &[])?;
     variables.meet(alloc, store, first)?;
     variables.meet(alloc, store, second)?;
-    let left = text_of(alloc, store, first, env, &variables)?;
-    let right = text_of(alloc, store, second, env, &variables)?;
+    let (left, known) = text_of(alloc, store, first, env, &variables, Vec::new(alloc))?;
+    let (right, _) = text_of(alloc, store, second, env, &variables, known)?;
     Ok((left, right))
 }
 
@@ -82,23 +84,26 @@ struct Written {
     known: Vec<Known>,
 }
 
-/// The text of a node's type, whose variables were met. It stops where the text is too long to be shown whole.
+/// The text of a node's type, whose variables were met, and the origins that are named then. It stops where the text is too long to be
+/// shown whole.
 fn text_of(
     alloc: Global,
     store: &Store,
     n: NodeRef,
     env: &Env,
     variables: &Variables,
-) -> Result<RcStr, NoMemory>
+    known: Vec<Known>,
+) -> Result<(RcStr, Vec<Known>), NoMemory>
     requires { IsNode store.now.nodes n.0 }
-    ensures { IfOk result (λ r. PrintsWith store.now.nodes env.now (variable_text variables.now) (shown store.now.nodes n.0) (str_bytes r)) }
+    ensures known { IfOk result (λ r. AreKnown store.now.nodes env.now known.items → AreKnown store.now.nodes env.now r.1.items) }
+    ensures text { IfOk result (λ r. Writes variables.now known.items r.1.items (shown store.now.nodes n.0) (str_bytes r.0)) }
 {
     let mut written = Written {
         text: String::new(alloc),
         left: Pieces {
             list: Vec::new(alloc),
         },
-        known: Vec::new(alloc),
+        known,
     };
     written.left.add(Piece::Type(store.root(n), Within::Alone))?;
     while written.text.len() <= MOST_SHOWN {
@@ -107,7 +112,8 @@ fn text_of(
             Some(piece) => write_piece(alloc, store, env, variables, &mut written, piece)?,
         }
     }
-    cut(alloc, written.text)
+    let text = cut(alloc, written.text)?;
+    Ok((text, written.known))
 }
 
 fn write_piece(
@@ -121,8 +127,9 @@ fn write_piece(
     requires part { IsPart store.now.nodes (part_of piece) }
     requires sound { IsSound store.now.nodes }
     ensures left { OnOk result (parts_of written.new.left ≡ opened store.now.nodes (part_of piece) (parts_of written.old.left)) }
-    ensures text { OnOk result ((ns : Names) → Speaks store.now.nodes env.now variables.now ns → KnownAre ns.origin written.old.known.items →
-        (string_bytes written.new.text ≡ string_bytes written.old.text ++ said store.now.nodes ns (part_of piece)) × KnownAre ns.origin written.new.known.items) }
+    ensures known { OnOk result (AreKnown store.now.nodes env.now written.old.known.items → AreKnown store.now.nodes env.now written.new.known.items) }
+    ensures text { OnOk result ((ns : Names) → Speaks variables.now written.new.known.items ns →
+        (string_bytes written.new.text ≡ string_bytes written.old.text ++ said store.now.nodes ns (part_of piece)) × Speaks variables.now written.old.known.items ns) }
 {
     match piece {
         Piece::Sign(sign) => push(&mut written.text, sign.text()),
@@ -180,8 +187,9 @@ fn write_name(
     origin: &Origin,
 ) -> Result<(), NoMemory>
     ensures left { OnOk result (parts_of written.new.left ≡ parts_of written.old.left) }
-    ensures text { OnOk result ((f : Path → List ℕ) → f (path_of origin.now) ≡ name_in env.now (path_of origin.now) (str_bytes origin.now.name) → KnownAre f written.old.known.items →
-        (string_bytes written.new.text ≡ string_bytes written.old.text ++ f (path_of origin.now)) × KnownAre f written.new.known.items) }
+    ensures known { OnOk result ((nodes : List Node) → IsDeclared nodes (path_of origin.now) (str_bytes origin.now.name) → AreKnown nodes env.now written.old.known.items → AreKnown nodes env.now written.new.known.items) }
+    ensures text { OnOk result ((f : Path → List ℕ) → KnownAre f written.new.known.items →
+        (string_bytes written.new.text ≡ string_bytes written.old.text ++ f (path_of origin.now)) × KnownAre f written.old.known.items) }
 {
     if let Some(name) = known_name(&written.known, origin) {
         push(&mut written.text, name.as_str())?;
@@ -199,7 +207,7 @@ fn remember(
     origin: &Origin,
     name: RcStr,
 ) -> Result<(), NoMemory>
-    ensures { OnOk result ((f : Path → List ℕ) → str_bytes name ≡ f (path_of origin.now) → KnownAre f known.old.items → KnownAre f known.new.items) }
+    ensures { OnOk result (IsLast (path_of origin.now) (str_bytes name) known.old.items known.new.items) }
 {
     let path = copy_of(alloc, &origin.path)?;
     add_known(known, Known { path, name })?;
@@ -222,7 +230,8 @@ fn copy_of(alloc: Global, path: &[u64]) -> Result<Vec<u64>, NoMemory>
 }
 
 fn known_name<'a>(known: &'a [Known], origin: &Origin) -> Option<&'a RcStr>
-    ensures { IfSome result (λ n. (f : Path → List ℕ) → KnownAre f known.now → str_bytes n.now ≡ f (path_of origin.now)) }
+    ensures some { IfSome result (λ n. (f : Path → List ℕ) → KnownAre f known.now → str_bytes n.now ≡ f (path_of origin.now)) }
+    ensures none { result ≡ None → is_known (path_of origin.now) known.now ≡ false }
 {
     for k in known {
         if k.path == origin.path {

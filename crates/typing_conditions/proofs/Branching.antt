@@ -9,6 +9,7 @@ use Rattle.level_unify.specs.Solutions.{Loose}
 use Rattle.level_unify.proofs.Unified.{fits_loosely}
 use Rattle.typing_conditions.specs.Sights.{Sight, Letters, Agrees}
 use Rattle.typing_conditions.specs.Frames.{Frame, Reaches}
+use Rattle.typing_conditions.specs.Seeing.{IsSeen}
 use Rattle.typing_conditions.specs.Judging.{judgements, AreKept, Follows, FallsShort, Meets, judged_at}
 use Rattle.typing_conditions.specs.Carrying.{Asks, Scope, HoldsWritten, IsUnder, Enters, ReadsOff, Continues, Carried}
 use Rattle.typing_conditions.proofs.Stays.{agrees_before, named_before, bounds_before}
@@ -29,7 +30,7 @@ carried_after {F} {scope} {asks} {further} {actual} {a} {b} {d} {G} {H} {K} p by
   told = both.told;
   reports = both.reports;
   counted = both.counted;
-  sound = λ r V c l. subst (λ cs. Meets c.kept (asks c ++ cs) both.judged both.told) (sym (at_end V c l)) (both.sound r V c l);
+  sound = λ r V c l. subst (λ cs. Meets (IsSeen l.scopes l.types V) c.kept (asks c ++ cs) both.judged both.told) (sym (at_end V c l)) (both.sound r V c l);
   follows = follows;
   complete = complete;
   first = λ named k V c e h. first_of named k V c e h (less_or_more k (length (asks c)));
@@ -56,11 +57,15 @@ carried_after {F} {scope} {asks} {further} {actual} {a} {b} {d} {G} {H} {K} p by
           named = named_before scope q.stays l.named;
           unbound = bounds_before scope c.chosen q.stays (p.stays.reaches r) l.unbound;
           kept = tt;
+          scopes = l.scopes;
+          in_the_end = λ i k env h. l.in_the_end i k env (q.stays.keeps.scopes i k env h);
+          types = l.types;
+          types_too = λ i k m h. l.types_too i k m (q.stays.keeps.recorded i k m h);
         }))
         (λ kept.
         let eq = by_kept V c (both.stays.loose V (fits_loosely d.nodes V l.reads.fits)) l.under (agrees_before both.stays l.agrees) (named_before scope both.stays l.named) kept in
         subst (λ cs. Follows c.kept cs q.judged) (sym eq)
-        (q.follows (p.stays.reaches r) V c (record { under = l.under; reads = l.reads; agrees = l.agrees; hidden_too = given_right V c.chosen p.hidden q.hidden l.hidden_too; named = l.named; unbound = l.unbound; kept = tt })))
+        (q.follows (p.stays.reaches r) V c (record { under = l.under; reads = l.reads; agrees = l.agrees; hidden_too = given_right V c.chosen p.hidden q.hidden l.hidden_too; named = l.named; unbound = l.unbound; kept = tt; scopes = l.scopes; in_the_end = l.in_the_end; types = l.types; types_too = l.types_too })))
 
     short_in_first : (c : Context) (cs : List Condition) → FallsShort (judgements c.kept (asks c)) p.judged → FallsShort (judgements c.kept (asks c ++ cs)) both.judged
     short_in_first c cs short = subst (λ js. FallsShort js both.judged) (sym (judged_both c.kept (asks c) cs)) (short_left (judgements c.kept (asks c)) p.judged (judgements c.kept cs) q.judged short)

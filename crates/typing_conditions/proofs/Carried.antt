@@ -10,9 +10,10 @@ use Rattle.type_nodes.specs.Nodes.{Node}
 use Rattle.type_nodes.specs.Readings.{Types}
 use Rattle.typing_conditions.specs.Sights.{Sight, Key, Letters, AreGiven, AreNodes, SameAt, Agrees}
 use Rattle.typing_conditions.specs.Frames.{Frame}
+use Rattle.typing_conditions.specs.Seeing.{IsSeen}
 use Rattle.typing_conditions.specs.Judging.{Judgement, judgements, AreKept, Follows, StartsWith, FallsShort, Meets}
 use Rattle.typing_conditions.specs.Carrying.{Asks, Scope, HoldsWritten, IsUnder, Enters, GoesOn, AreHidden, Continues, Carried, ReadsOff}
-use Rattle.typing_conditions.proofs.Judged.{hold_both, hold_left, hold_right, judged_both, counted_both, kept_left, kept_right, given_left, given_right, given_both, nodes_left, nodes_both, tell_both, follows_both, short_left, short_right, short_of_more, starts_all, starts_left, starts_right}
+use Rattle.typing_conditions.proofs.Judged.{hold_both, hold_left, hold_right, judged_both, counted_both, kept_left, kept_right, given_left, given_right, given_both, nodes_left, nodes_both, tell_both, seen_both, starts_both, follows_both, short_left, short_right, short_of_more, starts_all, starts_left, starts_right}
 use Rattle.typing_conditions.proofs.Meaning.{nodes_in, given_same}
 use Rattle.typing_conditions.proofs.Stays.{stays_refl, stays_trans, stays_closed, agrees_before, named_before, bounds_before, enters_next, goes_further}
 use Rattle.typing_conditions.specs.Hiding.{marked, HasCopy, AreDone, Owns}
@@ -49,7 +50,7 @@ carried_refl {F} {scope} {a} {G} = record {
   told = [];
   reports = sym (append-nil a.reports);
   counted = refl;
-  sound = λ r V c l. record { same = refl; holds = tt; tells = refl };
+  sound = λ r V c l. record { same = refl; holds = tt; tells = refl; sees = tt; starts = refl };
   follows = λ r V c l. refl;
   complete = λ named V c e h. inl (record { same = refl; types = V; on = record { fits = e.fits; before = λ n lt. refl; agrees = e.agrees }; hidden_too = (tt, tt) });
   first = λ named k V c e h. inl (subst (λ cs. StartsWith [] (judgements c.kept cs)) (sym (take_none k)) (starts_all []));
@@ -82,6 +83,10 @@ carried_trans {F} {scope} {asks} {further} {a} {b} {c} {G} {H} {K} p q = record 
         named = named_before scope q.stays l.named;
         unbound = bounds_before scope x.chosen q.stays (p.stays.reaches r) l.unbound;
         kept = kept_left x.kept p.judged q.judged l.kept;
+        scopes = l.scopes;
+        in_the_end = λ i k env h. l.in_the_end i k env (q.stays.keeps.scopes i k env h);
+        types = l.types;
+        types_too = λ i k m h. l.types_too i k m (q.stays.keeps.recorded i k m h);
       }) in
       let two = q.sound (p.stays.reaches r) V x (record {
         under = l.under;
@@ -91,11 +96,17 @@ carried_trans {F} {scope} {asks} {further} {a} {b} {c} {G} {H} {K} p q = record 
         named = l.named;
         unbound = l.unbound;
         kept = kept_right x.kept p.judged q.judged l.kept;
+        scopes = l.scopes;
+        in_the_end = l.in_the_end;
+        types = l.types;
+        types_too = l.types_too;
       }) in
       record {
         same = judged_both x.kept (asks x) (further x) ∙ ap (λ js. js ++ judgements x.kept (further x)) one.same ∙ ap (λ js. p.judged ++ js) two.same;
         holds = hold_both x.kept (asks x) (further x) one.holds two.holds;
         tells = tell_both x.kept (asks x) (further x) p.told q.told one.tells two.tells;
+        sees = seen_both (IsSeen l.scopes l.types V) (asks x) (further x) two.starts one.sees two.sees;
+        starts = starts_both (asks x) (further x) one.starts two.starts;
       };
   follows = λ r V x l.
       follows_both x.kept (asks x) (further x) p.judged q.judged
@@ -107,8 +118,12 @@ carried_trans {F} {scope} {asks} {further} {a} {b} {c} {G} {H} {K} p q = record 
         named = named_before scope q.stays l.named;
         unbound = bounds_before scope x.chosen q.stays (p.stays.reaches r) l.unbound;
         kept = tt;
+        scopes = l.scopes;
+        in_the_end = λ i k env h. l.in_the_end i k env (q.stays.keeps.scopes i k env h);
+        types = l.types;
+        types_too = λ i k m h. l.types_too i k m (q.stays.keeps.recorded i k m h);
       }))
-      (λ kept. q.follows (p.stays.reaches r) V x (record { under = l.under; reads = l.reads; agrees = l.agrees; hidden_too = given_right V x.chosen p.hidden q.hidden l.hidden_too; named = l.named; unbound = l.unbound; kept = tt }));
+      (λ kept. q.follows (p.stays.reaches r) V x (record { under = l.under; reads = l.reads; agrees = l.agrees; hidden_too = given_right V x.chosen p.hidden q.hidden l.hidden_too; named = l.named; unbound = l.unbound; kept = tt; scopes = l.scopes; in_the_end = l.in_the_end; types = l.types; types_too = l.types_too }));
   complete = λ named V x e h. elim (p.complete (named_before scope q.stays named) V x e (hold_left x.kept (asks x) (further x) h)) [
     | inl goes ↦ then_complete V x e goes (q.complete named goes.types x (enters_next p.stays e goes.on) (hold_right x.kept (asks x) (further x) h))
     | inr short ↦ inr (falls_first x (further x) short)
@@ -198,8 +213,12 @@ carried_under {F} {scope} {inner} {asks} {a} {b} {G} {H} into held still has p =
         named = named_in b l.named;
         unbound = λ k x e v bound. ap (λ ch. occurs v (ch.written F.owner x)) chosen ∙ l.unbound k x (ap (λ xs. slice_get xs k) (sym held) ∙ e) v bound;
         kept = subst (λ k. AreKept k p.judged) (sym kept) l.kept;
+        scopes = l.scopes;
+        in_the_end = l.in_the_end;
+        types = l.types;
+        types_too = l.types_too;
       }) in
-      subst (λ k. Meets k (asks (into c)) p.judged p.told) kept m;
+      subst (λ k. Meets (IsSeen l.scopes l.types V) k (asks (into c)) p.judged p.told) kept m;
   follows = λ r V c l.
       let chosen = (still c).1 in
       subst (λ k. Follows k (asks (into c)) p.judged) (still c).0 (p.follows r V (into c) (record {
@@ -210,6 +229,10 @@ carried_under {F} {scope} {inner} {asks} {a} {b} {G} {H} into held still has p =
         named = named_in b l.named;
         unbound = λ k x e v bound. ap (λ ch. occurs v (ch.written F.owner x)) chosen ∙ l.unbound k x (ap (λ xs. slice_get xs k) (sym held) ∙ e) v bound;
         kept = tt;
+        scopes = l.scopes;
+        in_the_end = l.in_the_end;
+        types = l.types;
+        types_too = l.types_too;
       }));
   complete = λ named V c e h. elim (p.complete (named_in b named) V (into c) (enters V c e) (subst (λ k. AllHold k (asks (into c))) (sym (still c).0) h)) [
     | inl goes ↦ inl (record { same = subst (λ k. judgements k (asks (into c)) ≡ p.judged) (still c).0 goes.same; types = goes.types; on = subst (GoesOn F a b H V goes.types) (still c).1 goes.on; hidden_too = subst (AreHidden p.hidden b goes.types) (still c).1 goes.hidden_too })
@@ -268,6 +291,10 @@ carried_dropped {F} {scope} {asks} {a} {b} own {G} implied p = record {
       named = l.named;
       unbound = l.unbound;
       kept = l.kept;
+      scopes = l.scopes;
+      in_the_end = l.in_the_end;
+      types = l.types;
+      types_too = l.types_too;
     }
 
 -- a node has its type without them
@@ -285,7 +312,7 @@ carried_as {F} {scope} {asks} {others} {a} {b} {G} {H} e p = record {
   told = p.told;
   reports = p.reports;
   counted = p.counted;
-  sound = λ r V c l. subst (λ cs. Meets c.kept cs p.judged p.told) (e c) (p.sound r V c l);
+  sound = λ r V c l. subst (λ cs. Meets (IsSeen l.scopes l.types V) c.kept cs p.judged p.told) (e c) (p.sound r V c l);
   follows = λ r V c l. subst (λ cs. Follows c.kept cs p.judged) (e c) (p.follows r V c l);
   complete = λ named V c en h. elim (p.complete named V c en (subst (AllHold c.kept) (sym (e c)) h)) [
     | inl goes ↦ inl (record { same = ap (judgements c.kept) (sym (e c)) ∙ goes.same; types = goes.types; on = goes.on; hidden_too = goes.hidden_too })

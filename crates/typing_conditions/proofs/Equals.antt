@@ -38,7 +38,7 @@ reports_stay {F} {G} {a} {b} rest = record {
   writes = written_next rest.written reaches refines;
   refines = refines;
   recorded = λ i k x e. rest.types i k ∙ e;
-  keeps = keeps_as rest.noted rest.types;
+  keeps = keeps_as rest.noted rest.scopes rest.types;
   written = λ x n e. rest.written x ∙ e;
   given = λ V ch h. h;
   inside = inside_longer a b rest.types rest.written longer;
@@ -75,7 +75,7 @@ unified_stays {F} {G} {a} {b} {m} {n} sound rest tight p q one = record {
   writes = written_next rest.written reaches refines;
   refines = refines;
   recorded = λ i k x e. rest.types i k ∙ e;
-  keeps = keeps_as rest.noted rest.types;
+  keeps = keeps_as rest.noted rest.scopes rest.types;
   written = λ x k e. rest.written x ∙ e;
   given = λ V ch h. h;
   inside = inside_longer a b rest.types rest.written longer;
@@ -126,6 +126,8 @@ equal_kept {F} {scope} {G} {found} {wanted} {m} {n} {a} {b} s at sound p q rest 
         same = ap (judged_as s) l.kept.0;
         holds = ((λ kept. p.is V c.chosen loose g ∙ old.1 ∙ sym (q.is V c.chosen loose g)), tt);
         tells = subst (λ t. TellBy t at (equal (found c.chosen) (wanted c.chosen)) (λ later. later ≡ []) []) (sym l.kept.0) refl;
+        sees = tt;
+        starts = refl;
       };
   follows = λ r V c l. (refl, λ k. refl);
   complete = λ named. complete;
@@ -172,6 +174,8 @@ equal_told {F} {scope} {G} {found} {wanted} {m} {n} {a} {b} s at p q rest tells 
     same = ap (judged_as s) l.kept.0;
     holds = ((λ kept. absurd (not_both l.kept.0 kept)), tt);
     tells = subst (λ t. TellBy t at (equal (found c.chosen) (wanted c.chosen)) (λ later. later ≡ []) (tells.report ∷ [])) (sym l.kept.0) (tells.report, [], refl, record { place = tells.place; kind = tells.is_kind; message = tt }, refl);
+    sees = tt;
+    starts = refl;
   };
   follows = λ r V c l. (refl, λ k. refl);
   complete = λ named. complete;

@@ -1,5 +1,6 @@
 -- Single steps: what the first of at most one condition comes to.
 use Rattle.std.proofs.Common.{◌≡◌, ◌⊎◌, inl, inr, Bool, ℕ, zero, suc, List, [], ◌∷◌, take, refl, sym, ap, subst}
+use Rattle.signature_model.specs.Entries.{Environment}
 use Rattle.typing_model.specs.Demands.{Site, Condition, AllHold}
 use Rattle.typing_model.specs.Contexts.{Context}
 use Rattle.type_nodes.specs.Readings.{Types}
@@ -31,5 +32,5 @@ first_one {judged = judged} ask complete (suc k) V c e h =
     ])
 
 -- where nothing is asked it is met
-pub nothing_met : (kept : Site → Bool) → Meets kept [] [] []
-nothing_met kept = record { same = refl; holds = tt; tells = refl }
+pub nothing_met : {S : ℕ → Environment → Bool → Type 0} (kept : Site → Bool) → Meets S kept [] [] []
+nothing_met kept = record { same = refl; holds = tt; tells = refl; sees = tt; starts = refl }

@@ -1,5 +1,5 @@
 -- Hidden letters that belong to one row alone, through one call after another.
-use Rattle.std.proofs.Common.{◌≡◌, ◌∙◌, ◌⊎◌, inl, inr, ℕ, zero, suc, ◌+◌, ◌/◌, ◌%◌, ◌<◌, ◌≤◌, ◌^◌, ◌==◌, ◌&&◌, ◌||◌, not, if◌then◌else◌, Bool, true, false, Option, Some, None, List, [], ◌∷◌, ◌++◌, refl, sym, ap, subst, arith}
+use Rattle.std.proofs.Common.{◌≡◌, ◌∙◌, ◌⊎◌, inl, inr, ℕ, zero, suc, ◌/◌, ◌%◌, ◌<◌, ◌≤◌, ◌^◌, ◌==◌, ◌&&◌, ◌||◌, not, if◌then◌else◌, Bool, true, false, Option, Some, None, List, [], ◌∷◌, ◌++◌, refl, sym, ap, subst, arith}
 use Rattle.std.specs.Prelude.{slice_get}
 use Rattle.std.proofs.lemmas.Bool.{eqb-true}
 use Rattle.std.proofs.lemmas.Nat.{div-mul-add, mod-mul-add, div-add-mod'}
@@ -10,7 +10,7 @@ use Rattle.typing_laws.proofs.Bools.{no_yes, and_cases, and_both}
 use Rattle.typing_model.specs.Contexts.{Choice}
 use Rattle.type_nodes.specs.Nodes.{Node}
 use Rattle.type_nodes.specs.Readings.{Types}
-use Rattle.typing_conditions.specs.Sights.{Sight, Key, own, letter, filled, without_unknown, doubtful, Letters, IsGiven, AreGiven, AreNodes, number_in}
+use Rattle.typing_conditions.specs.Sights.{AreScopesIn, Sight, Key, own, letter, filled, without_unknown, doubtful, Letters, IsGiven, AreGiven, AreNodes, number_in}
 use Rattle.typing_conditions.specs.Hiding.{plain_key, same_key, is_doubtful, row_of, is_some_of, is_none_or, marked, recorded_for, is_noted_for, is_new, typed_for, fits_for, have_node, is_sure, Keeps, IsBetween, HasTyped, HasCopy, ArePlaced, HaveOneNode, Settles, NoneDoubtful, AreOfRow, AreBelow, IsDone, AreDone, IsOwned, of_row, of_node, of_done, Owns, NotesRow, AreSure}
 
 pub one_some : (x y : ℕ) → Some x ≡ Some y → x ≡ y
@@ -70,16 +70,17 @@ copy_second xs ys h = let (j, at) = in_second xs ys h.place h.entry h.at in reco
 
 -- what is noted and recorded stays where nothing is done
 pub keeps_same : {a : Sight} → Keeps a a
-keeps_same = record { noted = λ i p h. h; same = λ i p h. refl; recorded = λ i p m e. e }
+keeps_same = record { noted = λ i p h. h; scopes = λ i p env h. h; same = λ i p h. refl; recorded = λ i p m e. e }
 
 -- where no type is recorded
-pub keeps_as : {a b : Sight} → ((i p : ℕ) → a.noted i p ≡ true → b.noted i p ≡ true) → ((i p : ℕ) → b.types i p ≡ a.types i p) → Keeps a b
-keeps_as noted types = record { noted = noted; same = λ i p h. types i p; recorded = λ i p m e. types i p ∙ e }
+pub keeps_as : {a b : Sight} → ((i p : ℕ) → a.noted i p ≡ true → b.noted i p ≡ true) → AreScopesIn a.scopes b.scopes → ((i p : ℕ) → b.types i p ≡ a.types i p) → Keeps a b
+keeps_as noted scopes types = record { noted = noted; scopes = scopes; same = λ i p h. types i p; recorded = λ i p m e. types i p ∙ e }
 
 -- and through one call after another
 pub keeps_both : {a b d : Sight} → Keeps a b → Keeps b d → Keeps a d
 keeps_both p q = record {
   noted = λ i k h. q.noted i k (p.noted i k h);
+  scopes = λ i k env h. q.scopes i k env (p.scopes i k env h);
   same = λ i k h. q.same i k (p.noted i k h) ∙ p.same i k h;
   recorded = λ i k m e. q.recorded i k m (p.recorded i k m e);
 }

@@ -3,10 +3,11 @@ use Rattle.std.proofs.Common.{◌≡◌, ◌∙◌, ℕ, zero, suc, ◌+◌, tak
 use Rattle.tree_model.specs.Trees.{Place}
 use Rattle.type_nodes.specs.Readings.{Types}
 use Rattle.type_nodes.specs.Nodes.{Node}
+use Rattle.signature_model.specs.Entries.{Environment}
 use Rattle.typing_model.specs.Demands.{Site, Demand, Condition, same, instance, made, known, demand, treated, AllHold}
 use Rattle.typing_model.specs.Contexts.{Choice}
 use Rattle.typing_conditions.specs.Sights.{Report, Letters, AreGiven, AreNodes}
-use Rattle.typing_conditions.specs.Judging.{Judgement, is_closing, judgements, refused, AreKept, JudgedBy, Follows, StartsWith, FallsShort, TellAll, TellBy, judged_at}
+use Rattle.typing_conditions.specs.Judging.{Judgement, is_closing, judgements, refused, AreKept, JudgedBy, Follows, StartsWith, FallsShort, TellAll, TellBy, starts_known, AllSeen, AnySeen, treats_none, Meets, judged_at}
 
 -- conditions that hold hold together
 pub hold_both : (kept : Site → Bool) (xs ys : List Condition) → AllHold kept xs → AllHold kept ys → AllHold kept (xs ++ ys)
@@ -94,6 +95,69 @@ tell_both kept (known t ∷ xs) ys rs us p q = tell_both kept xs ys rs us p q
 tell_both kept (demand s at d ∷ xs) ys rs us p q =
     tell_by (kept s) at d (λ later. TellAll kept xs later) (λ later. TellAll kept (xs ++ ys) later) us rs (λ zs h. tell_both kept xs ys zs us h q) p
 tell_both kept (treated n env ∷ xs) ys rs us p q = tell_both kept xs ys rs us p q
+
+-- what comes first stays first
+starts_front : (x : Condition) (xs ys : List Condition) → starts_known ((x ∷ xs) ++ ys) ≡ starts_known (x ∷ xs)
+starts_front (same t u) xs ys = refl
+starts_front (instance s t) xs ys = refl
+starts_front (made n t) xs ys = refl
+starts_front (known t) xs ys = refl
+starts_front (demand s at d) xs ys = refl
+starts_front (treated n env) xs ys = refl
+
+-- conditions of which neither start with that a type is known don't start so together
+pub starts_both : (xs ys : List Condition) → starts_known xs ≡ false → starts_known ys ≡ false → starts_known (xs ++ ys) ≡ false
+starts_both [] ys p q = q
+starts_both (x ∷ xs) ys p q = starts_front x xs ys ∙ p
+
+-- nor do those that start with others
+starts_after : (xs ys : List Condition) → starts_known ys ≡ false → starts_known (xs ++ ys) ≡ starts_known xs
+starts_after [] ys q = q
+starts_after (x ∷ xs) ys q = starts_front x xs ys
+
+-- of what is treated in conditions together S holds where it does in each, if the second don't start with that a type is known
+pub seen_both : (S : ℕ → Environment → Bool → Type 0) (xs ys : List Condition) → starts_known ys ≡ false → AllSeen S xs → AllSeen S ys → AllSeen S (xs ++ ys)
+seen_both S [] ys none p q = q
+seen_both S (same t u ∷ xs) ys none p q = seen_both S xs ys none p q
+seen_both S (instance s t ∷ xs) ys none p q = seen_both S xs ys none p q
+seen_both S (made n t ∷ xs) ys none p q = seen_both S xs ys none p q
+seen_both S (known t ∷ xs) ys none p q = seen_both S xs ys none p q
+seen_both S (demand s at d ∷ xs) ys none p q = seen_both S xs ys none p q
+seen_both S (treated n env ∷ xs) ys none p q = (subst (S n env) (sym (starts_after xs ys none)) p.0, seen_both S xs ys none p.1 q)
+
+-- conditions that treat nothing don't start so either
+pub start_none : (cs : List Condition) → treats_none cs ≡ true → starts_known cs ≡ false
+start_none [] e = refl
+start_none (same t u ∷ cs) e = refl
+start_none (instance s t ∷ cs) e = refl
+start_none (made n t ∷ cs) e = refl
+start_none (known t ∷ cs) e = absurd (cc)
+start_none (demand s at d ∷ cs) e = refl
+start_none (treated n env ∷ cs) e = refl
+
+-- where nothing is treated it holds of all that is
+pub seen_none : (S : ℕ → Environment → Bool → Type 0) (cs : List Condition) → treats_none cs ≡ true → AllSeen S cs
+seen_none S [] e = tt
+seen_none S (same t u ∷ cs) e = seen_none S cs e
+seen_none S (instance s t ∷ cs) e = seen_none S cs e
+seen_none S (made n t ∷ cs) e = seen_none S cs e
+seen_none S (known t ∷ cs) e = absurd (cc)
+seen_none S (demand s at d ∷ cs) e = seen_none S cs e
+seen_none S (treated n env ∷ cs) e = absurd (cc)
+
+-- what holds of any node holds of those that are treated
+pub any_seen : (cs : List Condition) → AllSeen AnySeen cs
+any_seen [] = tt
+any_seen (same t u ∷ cs) = any_seen cs
+any_seen (instance s t ∷ cs) = any_seen cs
+any_seen (made n t ∷ cs) = any_seen cs
+any_seen (known t ∷ cs) = any_seen cs
+any_seen (demand s at d ∷ cs) = any_seen cs
+any_seen (treated n env ∷ cs) = (tt, any_seen cs)
+
+-- conditions are met, whatever is to hold of what is treated in them
+pub meets_any : {S : ℕ → Environment → Bool → Type 0} {kept : Site → Bool} {cs : List Condition} {js : List Judgement} {rs : List Report} → Meets S kept cs js rs → Meets AnySeen kept cs js rs
+meets_any {cs = cs} m = record { same = m.same; holds = m.holds; tells = m.tells; sees = any_seen cs; starts = m.starts }
 
 judged_by : (kept : Site → Bool) (s : Site) (P Q : List Judgement → Type 0) (us js : List Judgement) → ((zs : List Judgement) → P zs → (AreKept kept zs → AreKept kept js) → Q (zs ++ us)) → JudgedBy kept s P js → JudgedBy kept s Q (js ++ us)
 judged_by kept s P Q us [] f p = absurd p

@@ -86,6 +86,10 @@ carried_kept {F} {scope} {asks} {a} {b} own opens {G} among p are_sure = record 
     named = l.named;
     unbound = l.unbound;
     kept = l.kept;
+    scopes = l.scopes;
+    in_the_end = l.in_the_end;
+    types = l.types;
+    types_too = l.types_too;
   });
   follows = λ r V c l. p.follows r V c (record {
     under = l.under;
@@ -100,6 +104,10 @@ carried_kept {F} {scope} {asks} {a} {b} own opens {G} among p are_sure = record 
     named = l.named;
     unbound = l.unbound;
     kept = l.kept;
+    scopes = l.scopes;
+    in_the_end = l.in_the_end;
+    types = l.types;
+    types_too = l.types_too;
   });
   complete = λ named V c e h. elim (p.complete named V c e h) [
     | inl goes ↦ inl (record { same = goes.same; types = goes.types; on = goes_kept own opens G among goes.on; hidden_too = hidden_more test p.hidden own G b c.chosen goes.types (p.stays.inside e.inside).given goes.on.agrees.given goes.hidden_too })

@@ -46,3 +46,5 @@ pub mod Outward
 pub mod Closed
 pub mod Hiding
 pub mod Keeping
+-- A demand, and behind it that a type is known.
+pub mod Behind

@@ -1,11 +1,11 @@
 -- New nodes: a variable for what a choice chooses, and nodes over others that have types.
-use Rattle.std.proofs.Common.{◌≡◌, ◌∙◌, ℕ, zero, suc, ◌<◌, List, map, length, refl, sym, ap, subst, arith, [], ◌∷◌, ◌++◌, inl, ◌⊎◌, append-nil}
+use Rattle.std.proofs.Common.{◌≡◌, ◌∙◌, ℕ, zero, suc, ◌<◌, List, map, length, refl, sym, ap, arith, [], ◌∷◌, ◌++◌, inl, ◌⊎◌, append-nil}
 use Rattle.std.specs.Prelude.{All}
 use Rattle.type_model.specs.Types.{Path, Typ, types_of}
 use Rattle.type_model.specs.Types.{Typ as type}
 use Rattle.type_model.specs.Limits.{no_scope}
-use Rattle.typing_model.specs.Demands.{same, known, treated, AllHold}
-use Rattle.typing_model.specs.Contexts.{Choice, Context, tell}
+use Rattle.typing_model.specs.Demands.{same, known, AllHold}
+use Rattle.typing_model.specs.Contexts.{Choice, Context}
 use Rattle.type_nodes.specs.Nodes.{Node, Var, Arrow, Tuple, Con, parts}
 use Rattle.type_nodes.specs.Readings.{Types, FitsNode}
 use Rattle.type_nodes.specs.States.{Change, state}
@@ -13,17 +13,16 @@ use Rattle.type_nodes.specs.Changes.{Makes}
 use Rattle.level_unify.specs.Solutions.{Loose}
 use Rattle.level_unify.specs.Copies.{Extends}
 use Rattle.level_unify.proofs.Unified.{fits_loosely}
-use Rattle.signature_model.specs.Matching.{IsKnown}
 use Rattle.typing_conditions.specs.Locals.{IsOwn, Refines}
 use Rattle.typing_conditions.proofs.Steps.{refines_made}
-use Rattle.typing_conditions.specs.Sights.{Sight, Key, without_unknown, value_of, Letters, IsKnownFor, AreNodes, SameAt}
+use Rattle.typing_conditions.specs.Sights.{Sight, Key, value_of, Letters, IsKnownFor, AreNodes, SameAt}
 use Rattle.typing_conditions.specs.Frames.{Frame, Reaches, IsOpen, AreOpen}
 use Rattle.typing_conditions.specs.Meanings.{Means, AllMean, none_mean, one_means, types_by}
 use Rattle.typing_conditions.specs.Judging.{FallsShort}
 use Rattle.typing_conditions.specs.Steps.{OnlyNodes}
 use Rattle.typing_conditions.specs.Carrying.{Scope, Enters, GoesOn, Stays, Continues, Carried, CarriedTo}
 use Rattle.typing_conditions.proofs.Judged.{given_right, nodes_both}
-use Rattle.typing_conditions.proofs.Stays.{agrees_before, stays_refl, stays_opened}
+use Rattle.typing_conditions.proofs.Stays.{agrees_before, stays_opened}
 use Rattle.typing_conditions.proofs.Framing.{open_var, open_made, written_next}
 use Rattle.typing_conditions.proofs.First.{first_none, first_one, nothing_met}
 use Rattle.typing_conditions.proofs.Making.{with_type, at_own, at_older, in_any_scope, makes_extends, made_here, loose_before, reading_before, fits_made}
@@ -40,7 +39,7 @@ made_stays {F} {G} {a} {b} {s} {t} {n} {c} more opened made rest new = record {
   writes = written_next rest.written (λ r. opened.reached) refines;
   refines = refines;
   recorded = λ i k x e. rest.types i k ∙ e;
-  keeps = keeps_as rest.noted rest.types;
+  keeps = keeps_as rest.noted rest.scopes rest.types;
   written = λ x k e. rest.written x ∙ e;
   given = λ V ch h. given_right V ch more G h;
   inside = λ h. let i = inside_longer a b rest.types rest.written extends.longer h in record { recorded = i.recorded; written = i.written; given = nodes_both more G b.nodes new i.given };
@@ -180,35 +179,6 @@ tuple_made {types = types} {ms = ms} {n = n} {a = a} {b = b} {s = s} {t = t} r p
     built_made (Tuple ms) (λ ts. type.Tuple (types_of ts)) types (λ l o e. absurd (cc)) (λ V m e. e)
     (λ V loose. loose.each n (Tuple ms) (made_here (state a.nodes s) (state b.nodes t) n (Tuple ms) made)) r p made rest
 
--- Where the definitions ask that no unknown type stands in what a key stands for, as in the type of a name, none does from then on.
-pub key_known : {F : Frame} {scope : Scope} {G : Letters} {a : Sight} {m : ℕ} (key : Key) → Means F a G (λ ch. value_of ch key) m → Carried F scope (λ c. known (value_of c.chosen key) ∷ []) a G a ((without_unknown key, m) ∷ G)
-key_known {F} {scope} {G} {a} {m} key p = record {
-  stays = stays_opened (without_unknown key) p.open_node.inside;
-  hidden = [];
-  settled = settles_none;
-  clear = λ known placed. none_doubtful;
-  judged = [];
-  told = [];
-  reports = sym (append-nil a.reports);
-  counted = refl;
-  sound = λ r V c l. record { same = refl; holds = (subst IsKnown (sym l.agrees.given.0.is) l.agrees.given.0.known, tt); tells = refl };
-  follows = λ r V c l. refl;
-  complete = λ named. complete;
-  first = λ named. first_one (λ c. known (value_of c.chosen key)) complete;
-}
-  where
-    complete : (V : Types) (c : Context) → Enters F scope a G V c → AllHold c.kept (known (value_of c.chosen key) ∷ []) →
-        Continues F (λ c. known (value_of c.chosen key) ∷ []) a a ((without_unknown key, m) ∷ G) [] [] V c ⊎ FallsShort [] []
-    complete V c e h =
-        let is = p.is V c.chosen (fits_loosely a.nodes V e.fits) e.agrees in
-        let g = e.agrees in
-        inl (record {
-          same = refl;
-          types = V;
-          on = record { fits = e.fits; before = λ i lt. refl; agrees = record { recorded = g.recorded; known = g.known; written = g.written; given = (record { is = is; known = subst IsKnown is h.0 }, g.given) } };
-          hidden_too = (tt, tt);
-        })
-
 -- A node whose row gives it a type, and for which nothing is recorded: what the choice has for it is that type.
 pub same_made : {F : Frame} {scope : Scope} {G : Letters} {a : Sight} {m : ℕ} {type : Choice → Typ} (key : Key) → ((x : Typ) → IsKnownFor key x) → Means F a G type m →
     Carried F scope (λ c. same (value_of c.chosen key) (type c.chosen) ∷ []) a G a ((key, m) ∷ G)
@@ -223,7 +193,7 @@ same_made {F} {scope} {G} {a} {m} {type} key free p = record {
   counted = refl;
   sound = λ r V c l.
       let before = agrees_before (stays_opened {F = F} key p.open_node.inside) l.agrees in
-      record { same = refl; holds = (l.agrees.given.0.is ∙ sym (p.is V c.chosen (fits_loosely a.nodes V l.reads.fits) before), tt); tells = refl };
+      record { same = refl; holds = (l.agrees.given.0.is ∙ sym (p.is V c.chosen (fits_loosely a.nodes V l.reads.fits) before), tt); tells = refl; sees = tt; starts = refl };
   follows = λ r V c l. refl;
   complete = λ named. complete;
   first = λ named. first_one (λ c. same (value_of c.chosen key) (type c.chosen)) complete;
@@ -240,23 +210,3 @@ same_made {F} {scope} {G} {a} {m} {type} key free p = record {
           on = record { fits = e.fits; before = λ i lt. refl; agrees = record { recorded = g.recorded; known = g.known; written = g.written; given = (record { is = is; known = free (V m) }, g.given) } };
           hidden_too = (tt, tt);
         })
-
--- What a node that is no expression and no pattern tells first asks nothing.
-pub told_first : {F : Frame} {scope : Scope} {G : Letters} {a : Sight} (n : ℕ) → Carried F scope (tell n) a G a G
-told_first {F} {scope} {G} {a} n = record {
-  stays = stays_refl;
-  hidden = [];
-  settled = settles_none;
-  clear = λ known placed. none_doubtful;
-  judged = [];
-  told = [];
-  reports = sym (append-nil a.reports);
-  counted = refl;
-  sound = λ r V c l. record { same = refl; holds = (tt, tt); tells = refl };
-  follows = λ r V c l. refl;
-  complete = λ named. complete;
-  first = λ named. first_one (λ c. treated n c.env) complete;
-}
-  where
-    complete : (V : Types) (c : Context) → Enters F scope a G V c → AllHold c.kept (tell n c) → Continues F (tell n) a a G [] [] V c ⊎ FallsShort [] []
-    complete V c e h = inl (record { same = refl; types = V; on = record { fits = e.fits; before = λ i lt. refl; agrees = e.agrees }; hidden_too = (tt, tt) })

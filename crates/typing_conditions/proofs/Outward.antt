@@ -18,7 +18,7 @@ use Rattle.typing_conditions.proofs.Instances.{local_more}
 use Rattle.typing_conditions.proofs.Closing.{closed_loose, own_reopened, local_closed}
 use Rattle.typing_conditions.proofs.Bindings.{any_before, any_after}
 use Rattle.typing_conditions.proofs.Fresh.{reads_closed, fits_closed}
-use Rattle.typing_conditions.specs.Sights.{Sight, Letters, AreNodes, IsInside}
+use Rattle.typing_conditions.specs.Sights.{AreScopesIn, Sight, Letters, AreNodes, IsInside}
 use Rattle.typing_conditions.specs.Frames.{Frame, Reaches, IsHeld, IsOpenAt, IsOpen, inner_frame, GoesIn}
 use Rattle.typing_conditions.specs.Meanings.{KnowsWritten}
 use Rattle.typing_conditions.specs.Steps.{OnlyLevel}
@@ -38,6 +38,7 @@ pub record GoesOut (F : Frame) (a : Sight) (J : Types) (roots : List ℕ) (held 
   pub lowered : b.level ≡ suc d.level
   pub types : (i p : ℕ) → d.types i p ≡ b.types i p
   pub noted : (i p : ℕ) → b.noted i p ≡ true → d.noted i p ≡ true
+  pub scopes : AreScopesIn b.scopes d.scopes
   pub written : (x : Name) → d.written x ≡ b.written x
   pub reports : d.reports ≡ b.reports
   pub aloud : d.aloud ≡ b.aloud
@@ -192,7 +193,7 @@ module _ {F : Frame} {scope : Scope} {asks : Asks} {a b c d : Sight} {J : Types}
     writes = writes;
     refines = λ r. refines;
     recorded = λ i k m e. l.out.types i k ∙ l.part.stays.recorded i k m (l.only.types i k ∙ e);
-    keeps = keeps_both (keeps_as l.only.noted l.only.types) (keeps_both l.part.stays.keeps (keeps_as l.out.noted l.out.types));
+    keeps = keeps_both (keeps_as l.only.noted l.only.scopes l.only.types) (keeps_both l.part.stays.keeps (keeps_as l.out.noted l.out.scopes l.out.types));
     written = λ x m e. l.out.written x ∙ l.part.stays.written x m (l.only.written x ∙ e);
     given = l.part.stays.given;
     inside = λ i. closed_inside (l.part.stays.inside (record {
@@ -232,8 +233,8 @@ module _ {F : Frame} {scope : Scope} {asks : Asks} {a b c d : Sight} {J : Types}
   carried_out = record {
     stays = group_stays;
     hidden = l.part.hidden;
-    settled = settles_as l.part.hidden (keeps_as l.only.noted l.only.types) (keeps_as l.out.noted l.out.types) l.part.settled;
-    clear = λ known placed. l.part.clear known (placed_before (keeps_as l.out.noted l.out.types) placed);
+    settled = settles_as l.part.hidden (keeps_as l.only.noted l.only.scopes l.only.types) (keeps_as l.out.noted l.out.scopes l.out.types) l.part.settled;
+    clear = λ known placed. l.part.clear known (placed_before (keeps_as l.out.noted l.out.scopes l.out.types) placed);
     judged = l.part.judged;
     told = l.part.told;
     reports = l.out.reports ∙ l.part.reports ∙ ap (λ rs. rs ++ l.part.told) l.only.reports;
@@ -246,6 +247,10 @@ module _ {F : Frame} {scope : Scope} {asks : Asks} {a b c d : Sight} {J : Types}
       named = named_there at.named;
       unbound = λ k y e v b. at.unbound k y e v (still_bound v b);
       kept = at.kept;
+      scopes = at.scopes;
+      in_the_end = λ i k env h. at.in_the_end i k env (l.out.scopes i k env h);
+      types = at.types;
+      types_too = λ i k m h. at.types_too i k m (l.out.types i k ∙ h);
     });
     follows = λ r V x at. l.part.follows (reached_inward l.goes_in l.only l.raised) V x (record {
       under = at.under;
@@ -255,6 +260,10 @@ module _ {F : Frame} {scope : Scope} {asks : Asks} {a b c d : Sight} {J : Types}
       named = named_there at.named;
       unbound = λ k y e v b. at.unbound k y e v (still_bound v b);
       kept = at.kept;
+      scopes = at.scopes;
+      in_the_end = λ i k env h. at.in_the_end i k env (l.out.scopes i k env h);
+      types = at.types;
+      types_too = λ i k m h. at.types_too i k m (l.out.types i k ∙ h);
     });
     complete = λ named V x e h. elim (l.part.complete (named_there named) V x (enters V x e) h) [
       | inl goes ↦ inl (record {
@@ -286,4 +295,4 @@ module _ {F : Frame} {scope : Scope} {asks : Asks} {a b c d : Sight} {J : Types}
   -- what it hides is what the part does, so the rows of letters are done still
   pub done_out : {ys : Letters} → AreDone c l.part.hidden ys → AreDone d carried_out.hidden ys
   unfolding carried_out
-  done_out h = done_on (keeps_as l.out.noted l.out.types) (λ x k. k) h
+  done_out h = done_on (keeps_as l.out.noted l.out.scopes l.out.types) (λ x k. k) h

@@ -8,7 +8,8 @@ use Rattle.type_model.proofs.Applying.{eqb_same}
 use Rattle.signature_model.specs.Matching.{IsKnown}
 use Rattle.typing_laws.proofs.Bools.{no_yes, and_cases, and_both}
 use Rattle.typing_model.specs.Demands.{Condition, same, AllHold}
-use Rattle.typing_model.specs.Contexts.{Choice, Context, tell_typed}
+use Rattle.env_table.specs.declared.entries.Entry.{Entry}
+use Rattle.typing_model.specs.Contexts.{Choice, Context, tell, tell_typed}
 use Rattle.type_nodes.specs.Nodes.{IsNode}
 use Rattle.type_nodes.specs.Readings.{Types, Fits, IsReading}
 use Rattle.level_unify.specs.Solutions.{Loose}
@@ -17,11 +18,12 @@ use Rattle.typing_conditions.specs.Locals.{IsOwn, Refines}
 use Rattle.typing_conditions.proofs.Steps.{refines_none}
 use Rattle.typing_conditions.specs.Sights.{Sight, Key, number_in, Letters, AreNodes, Agrees}
 use Rattle.typing_conditions.specs.Frames.{Frame, Reaches}
+use Rattle.typing_conditions.specs.Seeing.{StandsFor, IsSeen}
 use Rattle.typing_conditions.specs.Judging.{judgements, Follows, StartsWith, FallsShort, TellAll, Meets}
 use Rattle.typing_conditions.specs.Steps.{Records}
-use Rattle.typing_conditions.specs.Carrying.{Asks, Scope, HoldsWritten, Enters, ReadsOff, GoesOn, Stays, AreHidden, Continues, Carried, CarriedTo, EndsAs}
-use Rattle.typing_conditions.proofs.Judged.{hold_both, hold_left, hold_right, judged_both, given_left, given_right, given_both, tell_both, follows_both, follows_silent, starts_all}
-use Rattle.typing_conditions.proofs.Stays.{stays_trans, stays_closed, named_before, bounds_before}
+use Rattle.typing_conditions.specs.Carrying.{Asks, Scope, HoldsWritten, Enters, ReadsOff, SeesScope, GoesOn, Stays, AreHidden, Continues, Carried, CarriedTo, EndsAs}
+use Rattle.typing_conditions.proofs.Judged.{hold_both, hold_left, hold_right, judged_both, given_left, given_right, given_both, tell_both, seen_both, seen_none, start_none, follows_both, follows_silent, starts_all}
+use Rattle.typing_conditions.proofs.Stays.{stays_trans, stays_closed, agrees_before, named_before, bounds_before}
 use Rattle.typing_conditions.proofs.Framing.{open_on, reaches_same, written_next}
 use Rattle.typing_conditions.proofs.Carried.{Decides, hidden_more, take_none, less_or_more}
 use Rattle.typing_conditions.proofs.First.{starts_none}
@@ -29,7 +31,7 @@ use Rattle.typing_conditions.specs.Hiding.{Keeps, marked, is_sure, Owns, NotesRo
 use Rattle.typing_conditions.proofs.Hiding.{one_some, placed_before, settles_on, settles_closed, given_unmarked, owns_sure, sure_marked}
 
 -- what is recorded now is the new node, or was recorded before
-pub now_or_before : {a b : Sight} {p m : ℕ} → Records a b p m → (i q x : ℕ) → b.types i q ≡ Some x → ((a.item ≡ i) × (p ≡ q) × (m ≡ x)) ⊎ (a.types i q ≡ Some x)
+pub now_or_before : {a b : Sight} {p m : ℕ} {env : List Entry} → Records a b p m env → (i q x : ℕ) → b.types i q ≡ Some x → ((a.item ≡ i) × (p ≡ q) × (m ≡ x)) ⊎ (a.types i q ≡ Some x)
 now_or_before {a} {b} {p} {m} r i q x e = at (a.item == i && p == q) refl
   where
     at : (t : Bool) → (a.item == i && p == q) ≡ t → ((a.item ≡ i) × (p ≡ q) × (m ≡ x)) ⊎ (a.types i q ≡ Some x)
@@ -39,10 +41,10 @@ now_or_before {a} {b} {p} {m} r i q x e = at (a.item == i && p == q) refl
     at false f = inr (sym (ap (λ t. if t then Some m else a.types i q) f) ∙ sym (r.types i q) ∙ e)
 
 -- what is recorded now
-pub here_now : {a b : Sight} {p m : ℕ} → Records a b p m → b.types a.item p ≡ Some m
+pub here_now : {a b : Sight} {p m : ℕ} {env : List Entry} → Records a b p m env → b.types a.item p ≡ Some m
 here_now {a} {b} {p} {m} r = r.types a.item p ∙ ap (λ t. if t then Some m else a.types a.item p) (and_both (a.item == a.item) (p == p) (eqb_same a.item) (eqb_same p))
 
-still_there : {a b : Sight} {p m : ℕ} → Records a b p m → (i q x : ℕ) → a.types i q ≡ Some x → b.types i q ≡ Some x
+still_there : {a b : Sight} {p m : ℕ} {env : List Entry} → Records a b p m env → (i q x : ℕ) → a.types i q ≡ Some x → b.types i q ≡ Some x
 still_there {a} {b} {p} {m} r i q x e = at (a.item == i && p == q) refl
   where
     at : (t : Bool) → (a.item == i && p == q) ≡ t → b.types i q ≡ Some x
@@ -53,8 +55,8 @@ still_there {a} {b} {p} {m} r i q x e = at (a.item == i && p == q) refl
     at false f = r.types i q ∙ ap (λ t. if t then Some m else a.types i q) f ∙ e
 
 -- what was noted is so still, with the same type
-pub records_keep : {a b : Sight} {p m : ℕ} → Records a b p m → Keeps a b
-records_keep {a} {b} {p} {m} r = record { noted = r.noted; same = same; recorded = still_there r }
+pub records_keep : {a b : Sight} {p m : ℕ} {env : List Entry} → Records a b p m env → Keeps a b
+records_keep {a} {b} {p} {m} r = record { noted = r.noted; scopes = r.scopes; same = same; recorded = still_there r }
   where
     same : (i q : ℕ) → a.noted i q ≡ true → b.types i q ≡ a.types i q
     same i q h = at (a.item == i && p == q) refl
@@ -66,7 +68,7 @@ records_keep {a} {b} {p} {m} r = record { noted = r.noted; same = same; recorded
         at false f = r.types i q ∙ ap (λ t. if t then Some m else a.types i q) f
 
 -- where a node is recorded everything stays
-pub records_stay : {F : Frame} {G : Letters} {a b : Sight} {p m : ℕ} → Records a b p m → IsNode a.nodes m → Stays F a G b G
+pub records_stay : {F : Frame} {G : Letters} {a b : Sight} {p m : ℕ} {env : List Entry} → Records a b p m env → IsNode a.nodes m → Stays F a G b G
 records_stay {F} {G} {a} {b} {p} {m} r node = record {
   longer = let e : length b.nodes ≡ length a.nodes = ap length r.nodes in omega arith;
   loose = λ V h. subst (λ ns. Loose ns V) r.nodes h;
@@ -103,6 +105,7 @@ ends_same n type = record {
   silent = λ c. refl;
   silent_first = first;
   reports_none = λ c. refl;
+  treats = λ c. refl;
 }
   where
     first : (k : ℕ) (c : Context) → judgements c.kept (take k (same (c.chosen.type_at n) (type c.chosen) ∷ [])) ≡ []
@@ -117,16 +120,17 @@ ends_own n = record {
   silent = λ c. refl;
   silent_first = λ k c. ap (judgements c.kept) (take_none k);
   reports_none = λ c. refl;
+  treats = λ c. refl;
 }
 
 -- the node is noted with its type
-pub records_note : {a b : Sight} {n p m : ℕ} → number_in a.item p ≡ n → Records a b p m → NotesRow a b n m
+pub records_note : {a b : Sight} {n p m : ℕ} {env : List Entry} → number_in a.item p ≡ n → Records a b p m env → NotesRow a b n m
 records_note {a} {b} {n} {p} {m} number r = record { place = p; number = sym number; keeps = records_keep r; none = r.fresh; untyped = r.none; now = r.now; only = λ k e. sym (one_some m k (sym (here_now r) ∙ e)) }
 
 -- A whole row: what its node tells first, what it asks, and that its node has its type, where the type is recorded. The row's own letters are hidden then.
-pub row_recorded : {F : Frame} {scope : Scope} {asks ends : Asks} {type : Choice → Typ} {a b d : Sight} {G : Letters} (own : Letters) (n : ℕ) {p m : ℕ} → number_in b.item p ≡ n → (row : CarriedTo F scope asks a G b (own ++ G) type m) → EndsAs n type ends →
-    Records b d p m → (F.known ≡ true → Owns n m b row.carried.hidden own) → CarriedTo F scope (λ c. tell_typed n c ++ (asks c ++ ends c)) a G d G (λ ch. ch.type_at n) m
-row_recorded {F} {scope} {asks} {ends} {type} {a} {b} {d} {G} own n {p} {m} number row end r owned = record {
+pub row_recorded : {F : Frame} {scope : Scope} {asks ends : Asks} {type : Choice → Typ} {a b d : Sight} {G : Letters} (own : Letters) (n : ℕ) {p m : ℕ} {env : List Entry} → number_in b.item p ≡ n → (row : CarriedTo F scope asks a G b (own ++ G) type m) → EndsAs n type ends →
+    Records b d p m env → SeesScope F scope a G env → (F.known ≡ true → Owns n m b row.carried.hidden own) → CarriedTo F scope (λ c. tell_typed n c ++ (asks c ++ ends c)) a G d G (λ ch. ch.type_at n) m
+row_recorded {F} {scope} {asks} {ends} {type} {a} {b} {d} {G} own n {p} {m} {env} number row end r sees owned = record {
   carried = record {
     stays = stays_closed own (stays_trans it.stays (recorded (own ++ G)));
     hidden = it.hidden ++ mine;
@@ -162,7 +166,7 @@ row_recorded {F} {scope} {asks} {ends} {type} {a} {b} {d} {G} own n {p} {m} numb
     at_node : {H : Letters} (V : Types) (ch : Choice) → Agrees F.owner d H V ch → ch.type_at n ≡ V m
     at_node V ch g = ap ch.type_at (sym number) ∙ g.recorded b.item p m (here_now r)
 
-    sound : Reaches F a → (V : Types) (c : Context) → ReadsOff F scope d G (it.hidden ++ mine) it.judged V c → Meets c.kept (tell_typed n c ++ (asks c ++ ends c)) it.judged it.told
+    sound : Reaches F a → (V : Types) (c : Context) → (l : ReadsOff F scope d G (it.hidden ++ mine) it.judged V c) → Meets (IsSeen l.scopes l.types V) c.kept (tell_typed n c ++ (asks c ++ ends c)) it.judged it.told
     sound reached V c l =
         let g : Agrees F.owner b (own ++ G) V c.chosen = record {
           recorded = λ i q x e. l.agrees.recorded i q x (still_there r i q x e);
@@ -178,13 +182,24 @@ row_recorded {F} {scope} {asks} {ends} {type} {a} {b} {d} {G} own n {p} {m} numb
           named = named_before scope (recorded G) l.named;
           unbound = bounds_before scope c.chosen (recorded G) (it.stays.reaches reached) l.unbound;
           kept = l.kept;
+          scopes = l.scopes;
+          in_the_end = λ i q names h. l.in_the_end i q names (r.scopes i q names h);
+          types = l.types;
+          types_too = λ i k m h. l.types_too i k m (still_there r i k m h);
         }) in
         let here = at_node V c.chosen l.agrees in
+        let before = (recorded G).reads V l.reads in
+        let stand = sees V c.chosen (it.stays.reads V before) (agrees_before it.stays g) (named_before scope it.stays (named_before scope (recorded G) l.named)) (bounds_before scope c.chosen it.stays reached (bounds_before scope c.chosen (recorded G) (it.stays.reaches reached) l.unbound)) in
         let typed = row.means.is V c.chosen (fits_loosely b.nodes V ((recorded G).reads V l.reads).fits) g in
         record {
           same = judged_both c.kept (asks c) (ends c) ∙ ap (λ js. judgements c.kept (asks c) ++ js) (end.silent c) ∙ append-nil (judgements c.kept (asks c)) ∙ meets.same;
           holds = (tt, (subst IsKnown (sym here) (l.agrees.known b.item p m (here_now r)), hold_both c.kept (asks c) (ends c) meets.holds (end.holds c (here ∙ sym typed))));
           tells = subst (TellAll c.kept (asks c ++ ends c)) (append-nil it.told) (tell_both c.kept (asks c) (ends c) it.told [] meets.tells (end.reports_none c));
+          sees = (
+            record { item = b.item; place = p; number = sym number; env = env; at = l.in_the_end b.item p env r.scope; stands = subst (StandsFor V env) (sym l.under.env) stand; typed = λ told. (m, l.types_too b.item p m (here_now r)) },
+            seen_both (IsSeen l.scopes l.types V) (asks c) (ends c) (start_none (ends c) (end.treats c)) meets.sees (seen_none (IsSeen l.scopes l.types V) (ends c) (end.treats c)),
+          );
+          starts = refl;
         }
 
     follows : Reaches F a → (V : Types) (c : Context) → ReadsOff F scope d G (it.hidden ++ mine) [] V c → Follows c.kept (tell_typed n c ++ (asks c ++ ends c)) it.judged
@@ -204,6 +219,10 @@ row_recorded {F} {scope} {asks} {ends} {type} {a} {b} {d} {G} own n {p} {m} numb
           named = named_before scope (recorded G) l.named;
           unbound = bounds_before scope c.chosen (recorded G) (it.stays.reaches reached) l.unbound;
           kept = tt;
+          scopes = l.scopes;
+          in_the_end = λ i q names h. l.in_the_end i q names (r.scopes i q names h);
+          types = l.types;
+          types_too = λ i k m h. l.types_too i k m (still_there r i k m h);
         }))
         (λ kept. follows_silent c.kept (ends c) (end.silent c)))
 
@@ -256,3 +275,43 @@ row_recorded {F} {scope} {asks} {ends} {type} {a} {b} {d} {G} own n {p} {m} numb
     first named zero V c e h = inl (starts_none it.judged)
     first named (suc zero) V c e h = inl (starts_none it.judged)
     first named (suc (suc k)) V c e h = first_of named k V c e h.1.1 (less_or_more k (length (asks c)))
+
+-- What is recorded by the end of some conditions may be told at their start: the node is treated there, and asks nothing more.
+unfoldable pub told_at : {F : Frame} {scope : Scope} {asks : Asks} {a b : Sight} {G H : Letters} (n : ℕ) {i p : ℕ} {env : List Entry} → n ≡ number_in i p → Carried F scope asks a G b H → b.scopes i p ≡ Some env → SeesScope F scope a G env →
+    Carried F scope (λ c. tell n c ++ asks c) a G b H
+told_at {F} {scope} {asks} {a} {b} {G} {H} n {i} {p} {env} number it there sees = record {
+  stays = it.stays;
+  hidden = it.hidden;
+  settled = it.settled;
+  clear = it.clear;
+  judged = it.judged;
+  told = it.told;
+  reports = it.reports;
+  counted = it.counted;
+  sound = λ r V c l.
+      let meets = it.sound r V c l in
+      let stand = sees V c.chosen (it.stays.reads V l.reads) (agrees_before it.stays l.agrees) (named_before scope it.stays l.named) (bounds_before scope c.chosen it.stays r l.unbound) in
+      record {
+        same = meets.same;
+        holds = (tt, meets.holds);
+        tells = meets.tells;
+        sees = (record { item = i; place = p; number = number; env = env; at = l.in_the_end i p env there; stands = subst (StandsFor V env) (sym l.under.env) stand; typed = λ told. absurd (no_yes (sym meets.starts ∙ told)) }, meets.sees);
+        starts = refl;
+      };
+  follows = it.follows;
+  complete = λ named V c e h. elim (it.complete named V c e h.1) [
+    | inl on ↦ inl (record { same = on.same; types = on.types; on = on.on; hidden_too = on.hidden_too })
+    | inr short ↦ inr short
+  ];
+  first = first;
+}
+  where
+    first : HoldsWritten scope b → (k : ℕ) (V : Types) (c : Context) → Enters F scope a G V c → AllHold c.kept (take k (tell n c ++ asks c)) → Decides c it.judged (take k (tell n c ++ asks c))
+    first named zero V c e h = inl (starts_none it.judged)
+    first named (suc k) V c e h = it.first named k V c e h.1
+
+-- it hides the same
+pub told_hides : {F : Frame} {scope : Scope} {asks : Asks} {a b : Sight} {G H : Letters} (n : ℕ) {i p : ℕ} {env : List Entry} (number : n ≡ number_in i p) (it : Carried F scope asks a G b H) (there : b.scopes i p ≡ Some env) (sees : SeesScope F scope a G env) →
+    (told_at n number it there sees).hidden ≡ it.hidden
+unfolding told_at
+told_hides n number it there sees = refl

@@ -31,7 +31,7 @@ use Rattle.typing_conditions.proofs.Standing.{more_in, stands_fits_on, stands_re
 use Rattle.typing_conditions.specs.Sights.{Sight, Letters, Agrees}
 use Rattle.typing_conditions.specs.Frames.{Frame, Reaches, IsRoot}
 use Rattle.typing_conditions.specs.Meanings.{Means, KnowsFixed, KnowsWritten}
-use Rattle.typing_conditions.specs.Carrying.{Scope, Stays}
+use Rattle.typing_conditions.specs.Carrying.{Scope, SeesScope, Stays}
 use Rattle.typing_conditions.specs.Surroundings.{Declared, IsSteady, Surrounds, with_one, IsEntry}
 use Rattle.typing_conditions.proofs.Stays.{agrees_before, named_before, bounds_before}
 use Rattle.typing_conditions.proofs.Framing.{root_on}
@@ -103,6 +103,13 @@ surrounds_on {D} {F} {a} {b} {G} {H} {env} {scope} s at = record {
 
     excepted : (K : Types) → IsOwn b.nodes K → (c : Constructor) (o : Option Typ) → D.exception a.nodes at.roots at.names c o → D.exception b.nodes at.roots at.names c o
     excepted K own c o h = let before = own_of a.nodes at.reached.sound in at.steady.exception before.1 (s.refines at.reached K own) (λ r i. i) h
+
+-- at each reading they stand for those of the scope, whatever the declarations are by
+pub surrounds_sees : {D : Declared} {F : Frame} {a : Sight} {G : Letters} {env : List Entry} {scope : Scope} → Surrounds D F a G env scope → SeesScope F scope a G env
+surrounds_sees {a = a} at V ch reads g named unbound =
+    let own = own_of a.nodes at.reached.sound in
+    let stand = stands_declared (λ d e h. at.steady.declared h) (λ c o h. at.steady.excepted h) (at.reads own.0 V ch own.1 reads g named unbound) in
+    record { nodes = a.nodes; reads = reads; roots = at.roots; names = at.names; are = stand.names }
 
 -- A part is typed among one name more: its type is that of an open node, in which no unknown type stands.
 pub surrounds_named : {D : Declared} {F : Frame} {a : Sight} {G : Letters} {env : List Entry} {scope : Scope} {type : Choice → Typ} {e : Entry} {x : Name} {n : NodeRef} (place : rules.Place) → IsEntry e x n → Means F a G type n.0 →

@@ -41,6 +41,8 @@ test_judged {F} {scope} {G} {complaint} {holds} {at} {kind} {message} {place} {a
     same = ap (judged_as s) l.kept.0;
     holds = ((λ kept. is.truth c l.under), tt);
     tells = subst (λ t. TellBy t (at c) (test (complaint c) (holds c)) (λ later. later ≡ []) []) (sym l.kept.0) refl;
+    sees = tt;
+    starts = refl;
   };
   follows = λ r V c l. (refl, λ k. refl);
   complete = λ named V c e h. by V c e (c.kept s) refl;
@@ -65,6 +67,8 @@ test_judged {F} {scope} {G} {complaint} {holds} {at} {kind} {message} {place} {a
     holds = ((λ kept. absurd (not_both l.kept.0 kept)), tt);
     tells = subst (λ t. TellBy t (at c) (test (complaint c) (holds c)) (λ later. later ≡ []) (tells.report ∷ [])) (sym l.kept.0)
         (tells.report, [], refl, record { place = tells.place ∙ sym (is.here c l.under); kind = tells.is_kind ∙ sym (is.is_kind c l.under); message = tells.says ∙ sym (is.says c l.under) }, refl);
+    sees = tt;
+    starts = refl;
   };
   follows = λ r V c l. (refl, λ k. refl);
   complete = λ named V c e h. by V c e h.0 (c.kept s) refl;
@@ -108,7 +112,7 @@ closing_judged {F} {scope} {G} {env} {body} {a} {b} s at message v rest tells = 
       told = [];
       reports = tells ∙ sym (append-nil a.reports);
       counted = refl;
-      sound = λ r V c l. record { same = ap (closing_as s) l.kept.0; holds = ((λ kept. tt), tt); tells = subst (λ t. TellBy t at (closes (env c) (body c)) (λ later. later ≡ []) []) (sym l.kept.0) refl };
+      sound = λ r V c l. record { same = ap (closing_as s) l.kept.0; holds = ((λ kept. tt), tt); tells = subst (λ t. TellBy t at (closes (env c) (body c)) (λ later. later ≡ []) []) (sym l.kept.0) refl; sees = tt; starts = refl };
       follows = λ r V c l. (refl, λ k. refl);
       complete = λ named. complete true;
       first = λ named. first_one (λ c. demand s at (closes (env c) (body c))) (complete true);
@@ -126,6 +130,8 @@ closing_judged {F} {scope} {G} {env} {body} {a} {b} s at message v rest tells = 
         same = ap (closing_as s) l.kept.0;
         holds = ((λ kept. tt), tt);
         tells = subst (λ t. TellBy t at (closes (env c) (body c)) (λ later. later ≡ []) (tells.report ∷ [])) (sym l.kept.0) (tells.report, [], refl, record { place = tells.place; kind = tells.is_kind; message = tt }, refl);
+        sees = tt;
+        starts = refl;
       };
       follows = λ r V c l. (refl, λ k. refl);
       complete = λ named. complete false;

@@ -1,5 +1,5 @@
 -- The use of a name: an instance of the scheme that the code finds is a use of the one that the definitions find.
-use Rattle.std.proofs.Common.{◌≡◌, ◌∙◌, inl, ℕ, zero, suc, Bool, List, [], ◌∷◌, take, Option, Some, None, refl, sym, ap, subst, append-nil}
+use Rattle.std.proofs.Common.{false, ◌≡◌, ◌∙◌, inl, ℕ, zero, suc, Bool, List, [], ◌∷◌, take, Option, Some, None, refl, sym, ap, subst, append-nil}
 use Rattle.type_model.specs.Types.{Typ}
 use Rattle.type_model.specs.Schemes.{Scheme}
 use Rattle.signature_model.specs.Declarations.{Name}
@@ -25,7 +25,8 @@ use Rattle.typing_conditions.proofs.Uses.{use_sound, use_complete}
 use Rattle.typing_conditions.proofs.Names.{finds_scheme}
 use Rattle.typing_conditions.specs.Sights.{Sight, Key, value_of, Letters, IsKnownFor}
 use Rattle.typing_conditions.specs.Frames.{Frame, Reaches, IsOpen, IsRoot}
-use Rattle.typing_conditions.specs.Judging.{judgements, StartsWith, TellAll}
+use Rattle.typing_conditions.specs.Seeing.{IsSeen}
+use Rattle.typing_conditions.specs.Judging.{judgements, StartsWith, TellAll, starts_known, AllSeen}
 use Rattle.typing_conditions.specs.Steps.{OnlyNodes}
 use Rattle.typing_conditions.specs.Carrying.{Scope, HoldsWritten, Enters, ReadsOff, Stays, Continues, CarriedTo}
 use Rattle.typing_conditions.specs.Surroundings.{Declared, Surrounds}
@@ -55,6 +56,15 @@ used_asks kept o sc t e h = let held : AllHold kept (instance sc t ∷ []) = sub
 used_silent : (kept : Site → Bool) (o : Option Scheme) (t : Typ) → judgements kept (used_if o t) ≡ []
 used_silent kept None t = refl
 used_silent kept (Some s) t = refl
+
+-- it says of no node that it is treated
+used_seen : (S : ℕ → Environment → Bool → Type 0) (o : Option Scheme) (t : Typ) → AllSeen S (used_if o t)
+used_seen S None t = tt
+used_seen S (Some s) t = tt
+
+used_starts : (o : Option Scheme) (t : Typ) → starts_known (used_if o t) ≡ false
+used_starts None t = refl
+used_starts (Some s) t = refl
 
 used_silent_first : (kept : Site → Bool) (k : ℕ) (o : Option Scheme) (t : Typ) → judgements kept (take k (used_if o t)) ≡ []
 used_silent_first kept zero o t = refl
@@ -92,6 +102,8 @@ name_used {D} {F} {scope} {G} {env} {a} {b} {ms} {x} {m} key free at it = record
       same = used_silent c.kept (scheme_found c.env ms x) (value_of c.chosen key);
       holds = sound V c l;
       tells = used_tells c.kept (scheme_found c.env ms x) (value_of c.chosen key);
+      sees = used_seen (IsSeen l.scopes l.types V) (scheme_found c.env ms x) (value_of c.chosen key);
+      starts = used_starts (scheme_found c.env ms x) (value_of c.chosen key);
     };
     follows = λ r V c l. follows_silent c.kept (used_if (scheme_found c.env ms x) (value_of c.chosen key)) (used_silent c.kept (scheme_found c.env ms x) (value_of c.chosen key));
     complete = λ named V c e h. inl (complete named V c e h);
@@ -121,7 +133,7 @@ name_used {D} {F} {scope} {G} {env} {a} {b} {ms} {x} {m} key free at it = record
       writes = written_next it.rest.written (λ r. opened.reached) refines;
       refines = refines;
       recorded = λ i k y e. it.rest.types i k ∙ e;
-      keeps = keeps_as it.rest.noted it.rest.types;
+      keeps = keeps_as it.rest.noted it.rest.scopes it.rest.types;
       written = λ y k e. it.rest.written y ∙ e;
       given = λ V ch h. h.1;
       inside = λ h. let i = inside_longer a b it.rest.types it.rest.written it.taken.extends.longer h in record { recorded = i.recorded; written = i.written; given = (opened.inside, i.given) };

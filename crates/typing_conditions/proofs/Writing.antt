@@ -140,7 +140,7 @@ module _ (F : Frame) (a b : Sight) (s t : List Change) (n : ℕ) (x : Name) (r :
         };
         refines = refines;
         recorded = λ i k y e. w.types i k ∙ e;
-        keeps = keeps_as w.noted w.types;
+        keeps = keeps_as w.noted w.scopes w.types;
         written = w.before;
         given = λ V ch h. h;
         inside = λ h. record {

@@ -8,12 +8,14 @@ use Rattle.typing_model.specs.Contexts.{Choice, Variables, Context}
 use Rattle.type_nodes.specs.Readings.{Types, Fits, IsReading}
 use Rattle.level_unify.specs.Solutions.{Loose}
 use Rattle.level_unify.specs.Instances.{is_bound}
+use Rattle.env_table.specs.declared.entries.Entry.{Entry}
 use Rattle.typing_conditions.specs.Locals.{IsOwn, Refines}
-use Rattle.typing_conditions.specs.Sights.{Report, Sight, Letters, AreGiven, AreNodes, Agrees, IsInside, SameAt}
+use Rattle.typing_conditions.specs.Sights.{Report, Scopes, AreScopesIn, Recorded, AreTypesIn, Sight, Letters, AreGiven, AreNodes, Agrees, IsInside, SameAt}
+use Rattle.typing_conditions.specs.Seeing.{StandsFor, IsSeen}
 use Rattle.typing_conditions.specs.Frames.{Frame, Reaches}
 use Rattle.typing_conditions.specs.Hiding.{Keeps, ArePlaced, NoneDoubtful, Settles}
 use Rattle.typing_conditions.specs.Meanings.{Means, KnowsWritten}
-use Rattle.typing_conditions.specs.Judging.{Judgement, judgements, refused, AreKept, Follows, StartsWith, FallsShort, TellAll, Meets}
+use Rattle.typing_conditions.specs.Judging.{Judgement, judgements, refused, AreKept, Follows, StartsWith, FallsShort, TellAll, treats_none, Meets}
 
 -- what a part asks, by the context in which it stands
 abbrev pub Asks : Type 0
@@ -46,7 +48,8 @@ pub record Enters (F : Frame) (scope : Scope) (a : Sight) (G : Letters) (V : Typ
   pub fits : Fits a.nodes V
   pub agrees : Agrees F.owner a G V c.chosen
 
--- types with which a choice is read off a state, under the demands that were kept, where the scope holds what is written, and nothing that is bound
+-- Types with which a choice is read off a state, under the demands that were kept, where the scope holds what is written, and nothing that is bound.
+-- `scopes` and `types` are the names in scope and the types that are recorded in the end, by whatever is typed later: those of the state, and perhaps more.
 pub record ReadsOff (F : Frame) (scope : Scope) (b : Sight) (G hidden : Letters) (judged : List Judgement) (V : Types) (c : Context) : Type 0 where
   pub under : IsUnder scope c
   pub reads : IsReading b.nodes V
@@ -55,6 +58,14 @@ pub record ReadsOff (F : Frame) (scope : Scope) (b : Sight) (G hidden : Letters)
   pub named : HoldsWritten scope b
   pub unbound : HoldsUnbound F scope b c.chosen
   pub kept : AreKept c.kept judged
+  pub scopes : Scopes
+  pub in_the_end : AreScopesIn b.scopes scopes
+  pub types : Recorded
+  pub types_too : AreTypesIn b.types types
+
+-- the names of an environment stand for those of the scope at each reading of a state
+abbrev pub SeesScope : Frame → Scope → Sight → Letters → List Entry → Type 0
+SeesScope F scope a G env = (V : Types) (ch : Choice) → IsReading a.nodes V → Agrees F.owner a G V ch → HoldsWritten scope a → HoldsUnbound F scope a ch → StandsFor V env (scope.env ch)
 
 -- types go on: they fit what there is now, are as before at the nodes from before, and are those of the choice at what is recorded and given
 pub record GoesOn (F : Frame) (a b : Sight) (G : Letters) (V W : Types) (ch : Choice) : Type 0 where
@@ -93,7 +104,7 @@ pub record Continues (F : Frame) (asks : Asks) (a b : Sight) (G hidden : Letters
 
 -- What conditions ask was done, from one state to another, where the letters G are open before and G' after.
 -- `sound`: where typing in the frame reached the state before, each reading of the state after meets the conditions, under the demands that were kept, and what
--- was reported are the others, in order.
+-- was reported are the others, in order; and for each node that is treated the names in scope are recorded, which stand for those of the environment in which it is.
 -- `counted`: there are as many reports as demands that weren't kept, whatever may be read off.
 -- `follows`: each reading of the state after, whatever demands are kept, asks the demands that were judged, in order, as long as they are kept as they were judged.
 -- `complete`: types that fitted before and meet the conditions, under any set of kept demands, keep the same demands and go on; or they are the first not to
@@ -111,7 +122,7 @@ pub record Carried (F : Frame) (scope : Scope) (asks : Asks) (a : Sight) (G : Le
   pub told : List Report
   pub reports : b.reports ≡ a.reports ++ told
   pub counted : length told ≡ refused judged
-  pub sound : Reaches F a → (V : Types) (c : Context) → ReadsOff F scope b G' hidden judged V c → Meets c.kept (asks c) judged told
+  pub sound : Reaches F a → (V : Types) (c : Context) → (l : ReadsOff F scope b G' hidden judged V c) → Meets (IsSeen l.scopes l.types V) c.kept (asks c) judged told
   pub follows : Reaches F a → (V : Types) (c : Context) → ReadsOff F scope b G' hidden [] V c → Follows c.kept (asks c) judged
   pub complete : HoldsWritten scope b → (V : Types) (c : Context) → Enters F scope a G V c → AllHold c.kept (asks c) → Continues F asks a b G' hidden judged V c ⊎ FallsShort (judgements c.kept (asks c)) judged
   pub first : HoldsWritten scope b → (k : ℕ) (V : Types) (c : Context) → Enters F scope a G V c → AllHold c.kept (take k (asks c)) →
@@ -129,3 +140,4 @@ pub record EndsAs (n : ℕ) (type : Choice → Typ) (ends : Asks) : Type 0 where
   pub silent : (c : Context) → judgements c.kept (ends c) ≡ []
   pub silent_first : (k : ℕ) (c : Context) → judgements c.kept (take k (ends c)) ≡ []
   pub reports_none : (c : Context) → TellAll c.kept (ends c) []
+  pub treats : (c : Context) → treats_none (ends c) ≡ true

@@ -5,7 +5,7 @@ use Rattle.type_model.specs.Origins.{same_path}
 use Rattle.typing_model.specs.Contexts.{Choice}
 use Rattle.type_nodes.specs.Nodes.{Node}
 use Rattle.type_nodes.specs.Readings.{Types}
-use Rattle.typing_conditions.specs.Sights.{Sight, Key, own, letter, filled, without_unknown, doubtful, Letters, AreGiven, AreNodes, number_in}
+use Rattle.typing_conditions.specs.Sights.{AreScopesIn, Sight, Key, own, letter, filled, without_unknown, doubtful, Letters, AreGiven, AreNodes, number_in}
 
 -- a key without what it says of unknown types and of doubt
 abbrev pub plain_key : Key → Key
@@ -120,9 +120,10 @@ sure_for a b all m key = typed_for b m key || is_new a b (row_of key) && fits_fo
 abbrev pub is_sure : Sight → Sight → Letters → Key × ℕ → Bool
 is_sure a b all x = sure_for a b all x.1 (plain_key x.0)
 
--- what is noted and recorded in one state is so in another; and for what is noted the same is recorded
+-- what is noted and recorded in one state is so in another, with the same names in scope; and for what is noted the same is recorded
 pub record Keeps (a b : Sight) : Type 0 where
   pub noted : (i p : ℕ) → a.noted i p ≡ true → b.noted i p ≡ true
+  pub scopes : AreScopesIn a.scopes b.scopes
   pub same : (i p : ℕ) → a.noted i p ≡ true → b.types i p ≡ a.types i p
   pub recorded : (i p m : ℕ) → a.types i p ≡ Some m → b.types i p ≡ Some m
 

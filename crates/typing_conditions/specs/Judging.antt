@@ -1,6 +1,7 @@
 -- Which demands are kept, in order, and what is reported of the others.
 use Rattle.std.specs.Prelude.{◌≡◌, ◌≢◌, ◌⊎◌, ℕ, ◌+◌, Bool, true, false, if◌then◌else◌, List, [], ◌∷◌, ◌++◌}
 use Rattle.tree_model.specs.Trees.{Place}
+use Rattle.signature_model.specs.Entries.{Environment}
 use Rattle.typing_model.specs.Demands.{Site, Demand, equal, test, agrees, matches, closes, Complaint, Condition, same, instance, made, known, demand, treated, AllHold}
 use Rattle.typing_model.specs.Demands as complaint
 use Rattle.typing_model.specs.Messages.{complaint_text}
@@ -131,8 +132,40 @@ TellAll kept (known t ∷ cs) rs = TellAll kept cs rs
 TellAll kept (demand s at d ∷ cs) rs = TellBy (kept s) at d (λ later. TellAll kept cs later) rs
 TellAll kept (treated n env ∷ cs) rs = TellAll kept cs rs
 
--- Conditions are met under a set of kept demands: these are the judgements of their demands, they hold, and exactly the demands that aren't kept are reported.
-pub record Meets (kept : Site → Bool) (cs : List Condition) (judged : List Judgement) (told : List Report) : Type 0 where
+-- whether the first of conditions is that a type is known
+abbrev pub starts_known : List Condition → Bool
+starts_known (known t ∷ cs) = true
+starts_known _ = false
+
+-- of each node that conditions say to be treated, of the environment in which it is, and of whether a type is told to be known directly after it, S holds
+abbrev pub AllSeen : (S : ℕ → Environment → Bool → Type 0) → List Condition → Type 0
+AllSeen S [] = Unit {0}
+AllSeen S (same t u ∷ cs) = AllSeen S cs
+AllSeen S (instance s t ∷ cs) = AllSeen S cs
+AllSeen S (made n t ∷ cs) = AllSeen S cs
+AllSeen S (known t ∷ cs) = AllSeen S cs
+AllSeen S (demand s at d ∷ cs) = AllSeen S cs
+AllSeen S (treated n env ∷ cs) = S n env (starts_known cs) × AllSeen S cs
+
+-- what holds of any node and environment
+abbrev pub AnySeen : ℕ → Environment → Bool → Type 0
+AnySeen n env is_typed = Unit {0}
+
+-- whether conditions say of no node that it is treated, and of no type that it is known
+abbrev pub treats_none : List Condition → Bool
+treats_none [] = true
+treats_none (same t u ∷ cs) = treats_none cs
+treats_none (instance s t ∷ cs) = treats_none cs
+treats_none (made n t ∷ cs) = treats_none cs
+treats_none (known t ∷ cs) = false
+treats_none (demand s at d ∷ cs) = treats_none cs
+treats_none (treated n env ∷ cs) = false
+
+-- Conditions are met under a set of kept demands: these are the judgements of their demands, they hold, exactly the demands that aren't kept are reported, and S holds of the nodes that are treated.
+-- `starts`: they don't start with that a type is known, which is only said of a node that is treated before, and of a name after a demand.
+pub record Meets (S : ℕ → Environment → Bool → Type 0) (kept : Site → Bool) (cs : List Condition) (judged : List Judgement) (told : List Report) : Type 0 where
   pub same : judgements kept cs ≡ judged
   pub holds : AllHold kept cs
   pub tells : TellAll kept cs told
+  pub sees : AllSeen S cs
+  pub starts : starts_known cs ≡ false

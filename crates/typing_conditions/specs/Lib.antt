@@ -8,6 +8,7 @@ pub mod Rows
 pub mod Declared
 -- What typing carries on, condition by condition.
 pub mod Sights
+pub mod Seeing
 pub mod Frames
 pub mod Meanings
 pub mod Judging

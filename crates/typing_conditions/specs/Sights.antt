@@ -7,6 +7,7 @@ use Rattle.signature_model.specs.Matching.{IsKnown}
 use Rattle.typing_model.specs.Contexts.{Choice}
 use Rattle.type_nodes.specs.Nodes.{Node, IsNode}
 use Rattle.type_nodes.specs.Readings.{Types}
+use Rattle.env_table.specs.declared.entries.Entry.{Entry}
 use Rattle.env_table.specs.declared.faults.FaultKind.{FaultKind}
 
 -- a fault that was reported
@@ -25,13 +26,30 @@ pub record Fixed : Type 0 where
   pub bool : ℕ
   pub exn : ℕ
 
+-- the names in scope that are recorded, for an item and a number in it
+abbrev pub Scopes : Type 0
+Scopes = ℕ → ℕ → Option (List Entry)
+
+-- what is in the first is in the second too
+abbrev pub AreScopesIn : Scopes → Scopes → Type 0
+AreScopesIn S T = (i p : ℕ) (env : List Entry) → S i p ≡ Some env → T i p ≡ Some env
+
+-- the nodes of the types that are recorded, in the same way
+abbrev pub Recorded : Type 0
+Recorded = ℕ → ℕ → Option ℕ
+
+-- what is in the first is in the second too
+abbrev pub AreTypesIn : Recorded → Recorded → Type 0
+AreTypesIn S T = (i p m : ℕ) → S i p ≡ Some m → T i p ≡ Some m
+
 -- What typing works on: the nodes of types; the node of the type that is recorded for an item and a number in it, which an expression or a pattern has; for which of
--- them anything was noted, with a type or without;
+-- them anything was noted, with a type or without, and the names in scope that were noted;
 -- the nodes of the type variables written so far; what was reported; whether anything is reported and recorded; the item, and the level of new variables.
 pub record Sight : Type 0 where
   pub nodes : List Node
-  pub types : ℕ → ℕ → Option ℕ
+  pub types : Recorded
   pub noted : ℕ → ℕ → Bool
+  pub scopes : Scopes
   pub written : Name → Option ℕ
   pub reports : List Report
   pub aloud : Bool

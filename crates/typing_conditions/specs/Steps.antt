@@ -3,12 +3,14 @@ use Rattle.std.specs.Prelude.{◌≡◌, ◌⊎◌, ℕ, ◌&&◌, ◌==◌, Boo
 use Rattle.tree_model.specs.Trees.{Place}
 use Rattle.signature_model.specs.Declarations.{Name}
 use Rattle.env_table.specs.declared.faults.FaultKind.{FaultKind}
-use Rattle.typing_conditions.specs.Sights.{Report, Sight}
+use Rattle.env_table.specs.declared.entries.Entry.{Entry}
+use Rattle.typing_conditions.specs.Sights.{Report, AreScopesIn, Sight}
 
 -- only the nodes change
 pub record OnlyNodes (a b : Sight) : Type 0 where
   pub types : (i p : ℕ) → b.types i p ≡ a.types i p
   pub noted : (i p : ℕ) → a.noted i p ≡ true → b.noted i p ≡ true
+  pub scopes : AreScopesIn a.scopes b.scopes
   pub written : (x : Name) → b.written x ≡ a.written x
   pub reports : b.reports ≡ a.reports
   pub aloud : b.aloud ≡ a.aloud
@@ -29,19 +31,22 @@ pub record OnlyReports (a b : Sight) : Type 0 where
   pub nodes : b.nodes ≡ a.nodes
   pub types : (i p : ℕ) → b.types i p ≡ a.types i p
   pub noted : (i p : ℕ) → a.noted i p ≡ true → b.noted i p ≡ true
+  pub scopes : AreScopesIn a.scopes b.scopes
   pub written : (x : Name) → b.written x ≡ a.written x
   pub aloud : b.aloud ≡ a.aloud
   pub item : b.item ≡ a.item
   pub level : b.level ≡ a.level
   pub fixed : b.fixed ≡ a.fixed
 
--- a node is recorded for a number of the item, for which nothing was noted
-pub record Records (a b : Sight) (p m : ℕ) : Type 0 where
+-- a node is recorded for a number of the item, for which nothing was noted, with the names in scope
+pub record Records (a b : Sight) (p m : ℕ) (env : List Entry) : Type 0 where
   pub none : a.types a.item p ≡ None
   pub types : (i q : ℕ) → b.types i q ≡ (if a.item == i && p == q then Some m else a.types i q)
   pub fresh : a.noted a.item p ≡ false
   pub now : b.noted a.item p ≡ true
   pub noted : (i q : ℕ) → a.noted i q ≡ true → b.noted i q ≡ true
+  pub scopes : AreScopesIn a.scopes b.scopes
+  pub scope : b.scopes a.item p ≡ Some env
   pub written : (x : Name) → b.written x ≡ a.written x
   pub nodes : b.nodes ≡ a.nodes
   pub reports : b.reports ≡ a.reports
@@ -63,6 +68,7 @@ pub record Writes (a b : Sight) (x : Name) (m : ℕ) : Type 0 where
   pub before : (y : Name) (n : ℕ) → a.written y ≡ Some n → b.written y ≡ Some n
   pub types : (i p : ℕ) → b.types i p ≡ a.types i p
   pub noted : (i p : ℕ) → a.noted i p ≡ true → b.noted i p ≡ true
+  pub scopes : AreScopesIn a.scopes b.scopes
   pub reports : b.reports ≡ a.reports
   pub aloud : b.aloud ≡ a.aloud
   pub item : b.item ≡ a.item
@@ -74,6 +80,7 @@ pub record OnlyLevel (a b : Sight) : Type 0 where
   pub nodes : b.nodes ≡ a.nodes
   pub types : (i p : ℕ) → b.types i p ≡ a.types i p
   pub noted : (i p : ℕ) → a.noted i p ≡ true → b.noted i p ≡ true
+  pub scopes : AreScopesIn a.scopes b.scopes
   pub written : (x : Name) → b.written x ≡ a.written x
   pub reports : b.reports ≡ a.reports
   pub aloud : b.aloud ≡ a.aloud

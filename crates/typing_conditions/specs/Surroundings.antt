@@ -18,7 +18,7 @@ use Rattle.env_table.specs.Views.{kind_of}
 use Rattle.typing_conditions.specs.Locals.{IsOwn, Refines}
 use Rattle.typing_conditions.specs.Assumptions.{SchemeFits, SchemeReads}
 use Rattle.typing_conditions.specs.Standing.{IsIn, Covers, Stands}
-use Rattle.typing_conditions.specs.Declared.{UnknownApart, NoneUnknown}
+use Rattle.typing_conditions.specs.Declared.{UnknownApart, NoneUnknown, DeclaredAs, ExceptionAs}
 use Rattle.typing_conditions.specs.Sights.{Sight, Letters, Agrees}
 use Rattle.typing_conditions.specs.Frames.{Frame, Reaches, IsRoot}
 use Rattle.typing_conditions.specs.Meanings.{KnowsFixed, KnowsWritten}
@@ -30,10 +30,12 @@ pub record Declared : Type 1 where
   pub declaration : List Node → List ℕ → Types → Declaration → rules.Declaration → Type 0
   pub exception : List Node → List ℕ → Types → Constructor → Option Typ → Type 0
 
--- what stands for one does so later on, and among more roots
+-- What stands for one does so later on, and among more roots; and in any case it is one by its parts (`DeclaredAs`, `ExceptionAs`).
 pub record IsSteady (D : Declared) : Type 0 where
   pub declaration : {old new : List Node} {I J N : Types} {C C' : List ℕ} {d : Declaration} {e : rules.Declaration} → IsOwn old I → Refines old new J → ((r : ℕ) → IsIn C r → IsIn C' r) → D.declaration old C N d e → D.declaration new C' N d e
   pub exception : {old new : List Node} {I J N : Types} {C C' : List ℕ} {c : Constructor} {o : Option Typ} → IsOwn old I → Refines old new J → ((r : ℕ) → IsIn C r → IsIn C' r) → D.exception old C N c o → D.exception new C' N c o
+  pub declared : {nodes : List Node} {C : List ℕ} {N : Types} {d : Declaration} {e : rules.Declaration} → D.declaration nodes C N d e → DeclaredAs nodes C N d e
+  pub excepted : {nodes : List Node} {C : List ℕ} {N : Types} {c : Constructor} {o : Option Typ} → D.exception nodes C N c o → ExceptionAs nodes C N c o
 
 -- a type with labels is a type of its own
 abbrev pub HasOwnLabels : rules.Declaration → Type 0

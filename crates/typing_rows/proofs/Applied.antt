@@ -37,7 +37,7 @@ use Rattle.typing_conditions.proofs.Meaning.{means_on}
 use Rattle.typing_conditions.proofs.Nodes.{same_made}
 use Rattle.typing_conditions.proofs.Recording.{ends_own}
 use Rattle.typing_conditions.proofs.Branching.{carried_after, after_hides}
-use Rattle.typing_conditions.proofs.Surrounding.{surrounds_on}
+use Rattle.typing_conditions.proofs.Surrounding.{surrounds_on, surrounds_sees}
 use Rattle.typing_steps.specs.States.{is_aloud, sight}
 use Rattle.typing_steps.specs.Typing.{as_declared, TypesTo, RowCarried, TypesRow, AsksEqualIf}
 use Rattle.typing_steps.specs.Building.{used_by, building_in, construction_asks, TakesAs, TypesConstructor}
@@ -95,7 +95,7 @@ argument_known b d env e n head (Some t) None aloud names has typed = absurd has
 
 -- A constructor with its first argument: its use, the argument, and the record of its node.
 pub head_typed : (a b d f : Parts) (env : List Entry) (n head number : ℕ) (qs : List Tok) (last : Option Tok) (known : Bool) (e : Expression) (m : ℕ) (argument : Option ℕ) → TypesConstructor a b env (record { qualifiers = qs; last = last }) 1 known m argument → Goes a b →
-    TypesAsIf b d env e argument → Goes b d → number_in d.item number ≡ head → (is_aloud d.telling ≡ true → Records (sight d) (sight f) number m) → TypesHead a f env n head (record { qualifiers = qs; last = last }) known e m
+    TypesAsIf b d env e argument → Goes b d → number_in d.item number ≡ head → (is_aloud d.telling ≡ true → Records (sight d) (sight f) number m env) → TypesHead a f env n head (record { qualifiers = qs; last = last }) known e m
 unfolding head_noted carried_kept own_recorded carried_after carried_as
 head_typed a b d f env n head number qs last true e m argument typed goes argued goes' place records aloud F scope G names =
     let p : Written = record { qualifiers = qs; last = last } in
@@ -107,7 +107,7 @@ head_typed a b d f env n head number qs last true e m argument typed goes argued
     let behind = carried_after k.carried (λ V c loose under agrees named kept. ap (behind_head c n head e) (ap (λ v. if v then building_in c.env p else None) (k.kept c kept) ∙ k.finds V c loose under agrees named)) z in
     let means : Means F (sight d) ((own head, m) ∷ (k.letters ++ G)) (λ ch. ch.type_at head) m = record { open_node = y.open_node; is = λ V ch loose g. g.given.0.is } in
     let noted = records (ap is_aloud goes'.telling ∙ loud) in
-    let there = head_noted ((own head, m) ∷ k.letters) head place behind means noted (owns_also (own head) refl refl (owns_row k.of_row)) in
+    let there = head_noted ((own head, m) ∷ k.letters) head place behind means noted (surrounds_sees names) (owns_also (own head) refl refl (owns_row k.of_row)) in
     record {
       own = (own head, m) ∷ k.letters;
       typed = record { carried = carried_as (λ c. head_splits c n head e qs last) there.carried; means = there.means };
@@ -124,7 +124,7 @@ head_typed a b d f env n head number qs last false e m argument typed goes argue
     let z = carried_trans (carried_as (λ c. append-nil (e.typed c)) x) (same_itself (λ ch. ch.type_at head)) in
     let behind = carried_after k.typed.carried (λ V c loose under agrees named kept. ap (behind_head c n head e) (k.none V c loose under agrees named kept)) z in
     let noted = records (ap is_aloud goes'.telling ∙ loud) in
-    let there = head_noted ((own head, m) ∷ []) head place behind means noted (owns_node (own head) refl refl) in
+    let there = head_noted ((own head, m) ∷ []) head place behind means noted (surrounds_sees names) (owns_node (own head) refl refl) in
     record {
       own = (own head, m) ∷ [];
       typed = record { carried = carried_as (λ c. head_splits c n head e qs last) there.carried; means = there.means };

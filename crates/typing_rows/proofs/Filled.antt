@@ -125,7 +125,7 @@ joined_means {F} {scope} {G} {type} {p} {q} {a} {b} W fits same h k j = by (j.jo
         told = [];
         reports = j.rest.reports ∙ sym (append-nil a.reports);
         counted = refl;
-        sound = λ r V c l. record { same = refl; holds = tt; tells = refl };
+        sound = λ r V c l. record { same = refl; holds = tt; tells = refl; sees = tt; starts = refl };
         follows = λ r V c l. refl;
         complete = λ named V c e asked.
             let loose = fits_loosely a.nodes V e.fits in

@@ -59,6 +59,8 @@ test_held {B} {at} x s = record {
     same = ap (judged_as s) k.0;
     holds = ((λ kept. refl), tt);
     tells = subst (λ t. TellBy t at (test x true) (λ later. later ≡ []) []) (sym k.0) refl;
+    sees = tt;
+    starts = refl;
   };
   follows = λ c b f. (refl, λ k. refl);
   complete = complete;
@@ -80,6 +82,8 @@ test_reported {B} {at} x s r place kind message = record {
     same = ap (judged_as s) k.0;
     holds = ((λ kept. absurd (not_both k.0 kept)), tt);
     tells = subst (λ t. TellBy t at (test x false) (λ later. later ≡ []) (r ∷ [])) (sym k.0) (r, [], refl, record { place = place; kind = kind; message = message }, refl);
+    sees = tt;
+    starts = refl;
   };
   follows = λ c b f. (refl, λ k. refl);
   complete = complete;

@@ -1,5 +1,5 @@
 -- A node whose type is what the choice has for it: at the end of its row, and where it is recorded.
-use Rattle.std.proofs.Common.{◌≡◌, ◌∙◌, ◌⊎◌, inl, inr, ℕ, zero, suc, true, [], ◌∷◌, ◌++◌, take, refl, sym, ap, subst, append-nil}
+use Rattle.std.proofs.Common.{◌≡◌, ◌∙◌, ◌⊎◌, inl, inr, ℕ, zero, suc, true, List, [], ◌∷◌, ◌++◌, take, refl, sym, ap, subst, append-nil}
 use Rattle.type_model.specs.Types.{Typ}
 use Rattle.signature_model.specs.Matching.{IsKnown}
 use Rattle.typing_model.specs.Demands.{same, AllHold}
@@ -7,12 +7,14 @@ use Rattle.typing_model.specs.Contexts.{Choice, Context, tell_typed}
 use Rattle.type_nodes.specs.Readings.{Types, Fits}
 use Rattle.level_unify.proofs.Unified.{fits_loosely}
 use Rattle.typing_conditions.specs.Sights.{Sight, own, number_in, Letters, AreNodes}
+use Rattle.env_table.specs.declared.entries.Entry.{Entry}
 use Rattle.typing_conditions.specs.Frames.{Frame}
+use Rattle.typing_conditions.specs.Seeing.{StandsFor, IsSeen}
 use Rattle.typing_conditions.specs.Meanings.{Means}
 use Rattle.typing_conditions.specs.Judging.{StartsWith, FallsShort}
 use Rattle.typing_conditions.specs.Steps.{Records}
-use Rattle.typing_conditions.specs.Carrying.{Asks, Scope, HoldsWritten, Enters, GoesOn, Stays, Continues, Carried, EndsAs}
-use Rattle.typing_conditions.proofs.Judged.{follows_silent, starts_all}
+use Rattle.typing_conditions.specs.Carrying.{Asks, Scope, HoldsWritten, Enters, SeesScope, GoesOn, Stays, Continues, Carried, EndsAs}
+use Rattle.typing_conditions.proofs.Judged.{seen_none, start_none, follows_silent, starts_all}
 use Rattle.typing_conditions.proofs.Stays.{stays_refl, stays_trans, stays_opened, agrees_before, named_before, bounds_before}
 use Rattle.typing_conditions.proofs.First.{first_one, starts_none}
 use Rattle.typing_conditions.proofs.Carried.{Decides}
@@ -33,7 +35,7 @@ same_itself {F} {scope} {G} {a} type = record {
   told = [];
   reports = sym (append-nil a.reports);
   counted = refl;
-  sound = λ r V c l. record { same = refl; holds = (refl, tt); tells = refl };
+  sound = λ r V c l. record { same = refl; holds = (refl, tt); tells = refl; sees = tt; starts = refl };
   follows = λ r V c l. refl;
   complete = λ named. complete;
   first = λ named. first_one (λ c. same (type c.chosen) (type c.chosen)) complete;
@@ -56,7 +58,7 @@ ends_made {F} {scope} {G} {a} {n} {m} {type} {ends} p end = record {
   counted = refl;
   sound = λ r V c l.
       let before = agrees_before (stays_opened {F = F} (own n) p.open_node.inside) l.agrees in
-      record { same = end.silent c; holds = end.holds c (l.agrees.given.0.is ∙ sym (p.is V c.chosen (fits_loosely a.nodes V l.reads.fits) before)); tells = end.reports_none c };
+      record { same = end.silent c; holds = end.holds c (l.agrees.given.0.is ∙ sym (p.is V c.chosen (fits_loosely a.nodes V l.reads.fits) before)); tells = end.reports_none c; sees = seen_none (IsSeen l.scopes l.types V) (ends c) (end.treats c); starts = start_none (ends c) (end.treats c) };
   follows = λ r V c l. follows_silent c.kept (ends c) (end.silent c);
   complete = λ named V c e h.
       let g = e.agrees in
@@ -74,9 +76,9 @@ ends_made {F} {scope} {G} {a} {n} {m} {type} {ends} p end = record {
 }
 
 -- A node for which the choice has its type already is recorded. It tells what it is before all that was asked.
-unfoldable pub own_recorded : {F : Frame} {scope : Scope} {asks : Asks} {a b d : Sight} {G H : Letters} (n : ℕ) {p m : ℕ} → number_in b.item p ≡ n → Carried F scope asks a G b H → Means F b H (λ ch. ch.type_at n) m → Records b d p m →
+unfoldable pub own_recorded : {F : Frame} {scope : Scope} {asks : Asks} {a b d : Sight} {G H : Letters} (n : ℕ) {p m : ℕ} {env : List Entry} → number_in b.item p ≡ n → Carried F scope asks a G b H → Means F b H (λ ch. ch.type_at n) m → Records b d p m env → SeesScope F scope a G env →
     Carried F scope (λ c. tell_typed n c ++ asks c) a G d H
-own_recorded {F} {scope} {asks} {a} {b} {d} {G} {H} n {p} {m} number it means r = record {
+own_recorded {F} {scope} {asks} {a} {b} {d} {G} {H} n {p} {m} {env} number it means r sees = record {
   stays = stays_trans it.stays later;
   hidden = it.hidden;
   settled = settles_on it.hidden later.keeps it.settled;
@@ -95,9 +97,20 @@ own_recorded {F} {scope} {asks} {a} {b} {d} {G} {H} n {p} {m} number it means r 
         named = named_before scope later l.named;
         unbound = bounds_before scope c.chosen later (it.stays.reaches r') l.unbound;
         kept = l.kept;
+        scopes = l.scopes;
+        in_the_end = λ i q names h. l.in_the_end i q names (r.scopes i q names h);
+        types = l.types;
+        types_too = λ i k m h. l.types_too i k m (later.recorded i k m h);
       }) in
       let here = means.is V c.chosen (fits_loosely b.nodes V (later.reads V l.reads).fits) g in
-      record { same = meets.same; holds = (tt, (subst IsKnown (sym here) (l.agrees.known b.item p m (here_now r)), meets.holds)); tells = meets.tells };
+      let stand = sees V c.chosen (it.stays.reads V (later.reads V l.reads)) (agrees_before it.stays g) (named_before scope it.stays (named_before scope later l.named)) (bounds_before scope c.chosen it.stays r' (bounds_before scope c.chosen later (it.stays.reaches r') l.unbound)) in
+      record {
+        same = meets.same;
+        holds = (tt, (subst IsKnown (sym here) (l.agrees.known b.item p m (here_now r)), meets.holds));
+        tells = meets.tells;
+        sees = (record { item = b.item; place = p; number = sym number; env = env; at = l.in_the_end b.item p env r.scope; stands = subst (StandsFor V env) (sym l.under.env) stand; typed = λ told. (m, l.types_too b.item p m (here_now r)) }, meets.sees);
+        starts = refl;
+      };
   follows = λ r' V c l. it.follows r' V c (record {
     under = l.under;
     reads = later.reads V l.reads;
@@ -106,6 +119,10 @@ own_recorded {F} {scope} {asks} {a} {b} {d} {G} {H} n {p} {m} number it means r 
     named = named_before scope later l.named;
     unbound = bounds_before scope c.chosen later (it.stays.reaches r') l.unbound;
     kept = l.kept;
+    scopes = l.scopes;
+    in_the_end = λ i q names h. l.in_the_end i q names (r.scopes i q names h);
+    types = l.types;
+    types_too = λ i k m h. l.types_too i k m (later.recorded i k m h);
   });
   complete = λ named V c e h. elim (it.complete (named_before scope later named) V c e h.1.1) [
     | inl on ↦ inl (record { same = on.same; types = on.types; on = goes V c h.1.0 on; hidden_too = (subst (AreNodes it.hidden) (sym r.nodes) on.hidden_too.0, on.hidden_too.1) })
@@ -147,14 +164,14 @@ pub record HeadNoted (F : Frame) (scope : Scope) (asks : Asks) (a : Sight) (G : 
   pub done : AreDone d carried.hidden letters
 
 -- where they are without doubt once it is noted
-pub own_sure : {F : Frame} {scope : Scope} {asks : Asks} {a b d : Sight} {G H : Letters} (letters : Letters) (n : ℕ) {p m : ℕ} (place : number_in b.item p ≡ n) (it : Carried F scope asks a G b H) (means : Means F b H (λ ch. ch.type_at n) m) (r : Records b d p m) →
-    Owns n m b it.hidden letters → F.known ≡ true → ArePlaced d → AreSure a d (own_recorded n place it means r).hidden letters
+pub own_sure : {F : Frame} {scope : Scope} {asks : Asks} {a b d : Sight} {G H : Letters} (letters : Letters) (n : ℕ) {p m : ℕ} {env : List Entry} (place : number_in b.item p ≡ n) (it : Carried F scope asks a G b H) (means : Means F b H (λ ch. ch.type_at n) m) (r : Records b d p m env) (sees : SeesScope F scope a G env) →
+    Owns n m b it.hidden letters → F.known ≡ true → ArePlaced d → AreSure a d (own_recorded n place it means r sees).hidden letters
 unfolding own_recorded
-own_sure letters n place it means r owned known placed = owns_sure it.hidden it.stays.keeps it.settled placed (it.clear known (placed_before (records_note place r).keeps placed)) (records_note place r) owned
+own_sure letters n place it means r sees owned known placed = owns_sure it.hidden it.stays.keeps it.settled placed (it.clear known (placed_before (records_note place r).keeps placed)) (records_note place r) owned
 
-unfoldable pub head_noted : {F : Frame} {scope : Scope} {asks : Asks} {a b d : Sight} {G : Letters} (letters : Letters) (n : ℕ) {p m : ℕ} → number_in b.item p ≡ n → (it : Carried F scope asks a G b (letters ++ G)) → Means F b (letters ++ G) (λ ch. ch.type_at n) m → Records b d p m →
+unfoldable pub head_noted : {F : Frame} {scope : Scope} {asks : Asks} {a b d : Sight} {G : Letters} (letters : Letters) (n : ℕ) {p m : ℕ} {env : List Entry} → number_in b.item p ≡ n → (it : Carried F scope asks a G b (letters ++ G)) → Means F b (letters ++ G) (λ ch. ch.type_at n) m → Records b d p m env → SeesScope F scope a G env →
     Owns n m b it.hidden letters → HeadNoted F scope (λ c. tell_typed n c ++ asks c) a G d letters (λ ch. ch.type_at n) m
-head_noted letters n place it means r owned =
-    let whole = own_recorded n place it means r in
-    let sure = own_sure letters n place it means r owned in
+head_noted letters n place it means r sees owned =
+    let whole = own_recorded n place it means r sees in
+    let sure = own_sure letters n place it means r sees owned in
     record { carried = carried_kept letters letters (all_among letters) whole sure; means = means_on (records_stay r means.open_node.inside) means; done = kept_done letters whole sure owned.sure }

@@ -12,16 +12,18 @@ use Rattle.typing_state.specs.Notes.{Noted}
 use Rattle.typing_state.specs.Types.{MakesVar, any_scope}
 use Rattle.typing_conditions.specs.Sights.{Sight, Key, own, number_in, Letters}
 use Rattle.typing_conditions.specs.Frames.{Frame, Reaches, IsOpen}
-use Rattle.typing_conditions.specs.Carrying.{Asks, Scope, Carried, CarriedTo}
-use Rattle.typing_conditions.specs.Hiding.{is_doubtful, NoneDoubtful, ArePlaced, AreOfRow, Owns, AreSure, IsAmong}
+use Rattle.typing_conditions.specs.Carrying.{Asks, Scope, SeesScope, Carried, CarriedTo}
+use Rattle.typing_conditions.specs.Hiding.{is_doubtful, NoneDoubtful, ArePlaced, AreDone, AreOfRow, Owns, AreSure, IsAmong}
 use Rattle.typing_conditions.proofs.Hiding.{no_row, owns_also, owns_row, owns_before, done_copies}
-use Rattle.typing_conditions.proofs.Carried.{carried_trans, carried_as, done_then, done_last, owns_last, done_as, owns_as}
+use Rattle.typing_conditions.proofs.Carried.{carried_trans, carried_as, done_then, owns_last, done_as, owns_as}
 use Rattle.typing_conditions.proofs.Keeping.{carried_kept, kept_copies, noted_sure}
 use Rattle.typing_conditions.proofs.Framing.{open_on}
-use Rattle.typing_conditions.proofs.Nodes.{same_made, told_first}
-use Rattle.typing_conditions.proofs.Surrounding.{surrounds_on}
+use Rattle.typing_conditions.proofs.Nodes.{same_made}
+use Rattle.typing_conditions.proofs.Recording.{told_at, told_hides}
+use Rattle.typing_conditions.proofs.Surrounding.{surrounds_on, surrounds_sees}
 use Rattle.typing_steps.specs.States.{is_aloud, sight}
 use Rattle.typing_steps.proofs.Making.{var_made}
+use Rattle.typing_steps.proofs.Recording.{noted_scope}
 use Rattle.typing_steps.proofs.Still.{none_idle, carried_idle, idle_hides, untyped_noted, untyped_row}
 use Rattle.typing_steps.proofs.Testing.{carried_here}
 use Rattle.typing_rows.specs.TypeContracts.{RowReadIf, RowRead, ReadsRow, ReadsTo, ReadsAll, EndsRead}
@@ -79,23 +81,25 @@ first_of n m xs zero z e = e
 first_of n m xs (suc k) z e = absurd (cc)
 
 -- what is recorded for the node of a type expression has no type
-pub noted_reads : (a b d : Parts) (env : List Entry) (asks : Asks) (n m number : ℕ) (seen : Seen) → seen.ty ≡ None → number_in b.item number ≡ n → Goes a b → ReadsRow a b env asks n m → Noted b.telling b d number seen → OnlyIndex b d → ReadsTo a d env (λ c. tell n c ++ asks c) n m
-noted_reads a b d env asks n m number seen none place goes read noted rest = λ aloud F scope G s.
+pub noted_reads : (a b d : Parts) (env : List Entry) (asks : Asks) (n m number : ℕ) (seen : Seen) → seen.ty ≡ None → seen.env ≡ env → number_in b.item number ≡ n → Goes a b → ReadsRow a b env asks n m → Noted b.telling b d number seen → OnlyIndex b d → ReadsTo a d env (λ c. tell n c ++ asks c) n m
+noted_reads a b d env asks n m number seen none among place goes read noted rest = λ aloud F scope G s.
     let x = read aloud F scope G s in
     let letters : Letters = (own n, m) ∷ x.letters in
     let only = untyped_noted b d number seen none noted rest in
     let same = ap (λ f. (sight (record b { faults = f })).reports) rest.faults in
     let y : Carried F scope (λ c. []) (sight b) (letters ++ G) (sight d) (letters ++ G) = carried_idle none_idle only same in
-    let row = untyped_row b d n m number seen none (ap is_aloud goes.telling ∙ aloud) noted rest place in
+    let loud : is_aloud b.telling ≡ true = ap is_aloud goes.telling ∙ aloud in
+    let row = untyped_row b d n m number seen none loud noted rest place in
     let whole = carried_trans x.carried y in
     let sure : F.known ≡ true → ArePlaced (sight d) → AreSure (sight a) (sight d) whole.hidden letters = λ known placed. noted_sure letters x.carried y (idle_hides F scope (letters ++ G) none_idle only same) row (x.owns known) known placed in
     let kept = carried_kept letters ((own n, m) ∷ []) (first_among (own n, m) x.letters) whole sure in
-    let told : Carried F scope (λ c. tell n c) (sight a) G (sight a) G = told_first n in
     let there = carried_as (λ c. append-nil (asks c)) kept in
+    let recorded = noted_scope b d number seen loud noted in
+    let sees = subst (SeesScope F scope (sight a) G) (sym among) (surrounds_sees s) in
     record {
-      carried = carried_trans told there;
+      carried = told_at n (sym place) there recorded sees;
       means = record { open_node = open_on y.stays x.means.open_node; is = λ V ch loose g. g.given.0.is };
-      done = done_last told there (done_as (λ c. append-nil (asks c)) kept (done_copies (only_own n m) (λ k z e. let first : slice_get letters 0 ≡ Some z = first_of n m x.letters k z e in kept_copies letters ((own n, m) ∷ []) (first_among (own n, m) x.letters) whole sure 0 z first)));
+      done = subst (λ xs. AreDone (sight d) xs ((own n, m) ∷ [])) (sym (told_hides n (sym place) there recorded sees)) (done_as (λ c. append-nil (asks c)) kept (done_copies (only_own n m) (λ k z e. let first : slice_get letters 0 ≡ Some z = first_of n m x.letters k z e in kept_copies letters ((own n, m) ∷ []) (first_among (own n, m) x.letters) whole sure 0 z first)));
     }
 
 -- a row with further letters, whatever is open after it

@@ -18,7 +18,9 @@ use Rattle.typing_state.specs.Notes.{Noted, NotedNameless}
 use Rattle.typing_state.specs.Types.{MakesVar, any_scope}
 use Rattle.typing_conditions.specs.Sights.{number_in}
 use Rattle.typing_conditions.proofs.Answering.{to_as}
-use Rattle.typing_steps.specs.States.{is_aloud}
+use Rattle.typing_conditions.specs.Carrying.{SeesScope}
+use Rattle.typing_conditions.proofs.Surrounding.{surrounds_sees}
+use Rattle.typing_steps.specs.States.{is_aloud, sight}
 use Rattle.typing_steps.specs.Typing.{TypesTo, TypesRow}
 use Rattle.typing_steps.proofs.Rows.{row_carried, row_any, var_any}
 use Rattle.typing_steps.proofs.Recording.{type_noted, nameless_noted}
@@ -38,15 +40,15 @@ row_here : (negated : Bool) (i n : ℕ) (at : Place) (t : Tree) (c : Context) �
 row_here negated i n at t c = under_recorded negated (number_of i n) (row_expression i n at t) c ∙ ap (λ e. (under_minus negated e).typed c) (sym (expression_by_row i n at t))
 
 -- An expression that is there: its row, and the record of its type.
-pub row_typed : (a b d : Parts) (o : Operand) (nd : Bor Node) (negated : Bool) (env : List Entry) (ty : NodeRef) (seen : Seen) → o.node ≡ Some nd → seen.ty ≡ Some ty →
+pub row_typed : (a b d : Parts) (o : Operand) (nd : Bor Node) (negated : Bool) (env : List Entry) (ty : NodeRef) (seen : Seen) → o.node ≡ Some nd → seen.ty ≡ Some ty → seen.env ≡ env →
     ((place : Place) → IsCarried (numbered o.number place (inner (node_view nd.now))) → TypesRow a b env (λ c. (under_minus negated (row_expression a.item o.number place (node_view nd.now))).typed c) (number_of a.item o.number) ty.0) →
     Goes a b → Noted b.telling b d o.number seen → OnlyIndex b d → IsCarried (operand_view o) →
     TypesTo a d env (λ c. (under_minus negated (expression_of a.item (operand_view o))).typed c) (λ ch. ch.type_at (expression_of a.item (operand_view o)).node) ty.0
-row_typed a b d o nd negated env ty seen there is typed goes noted rest carried = λ aloud F scope G s.
+row_typed a b d o nd negated env ty seen there is among typed goes noted rest carried = λ aloud F scope G s.
     let here : IsCarried (numbered o.number (place_of o.span) (inner (node_view nd.now))) = subst (λ m. IsCarried (numbered o.number (place_of o.span) (part_of m o.span))) there carried in
     let loud : is_aloud b.telling ≡ true = ap is_aloud goes.telling ∙ aloud in
     let row = typed (place_of o.span) here aloud F scope G s in
-    let whole = row_carried (ap (λ i. number_in i o.number) goes.item) row (type_noted b d o.number ty seen is loud noted rest) in
+    let whole = row_carried (ap (λ i. number_in i o.number) goes.item) row (type_noted b d o.number ty seen is loud noted rest) (subst (SeesScope F scope (sight a) G) (sym among) (surrounds_sees s)) in
     let same : numbered o.number (place_of o.span) (inner (node_view nd.now)) ≡ operand_view o = ap (λ m. numbered o.number (place_of o.span) (part_of m o.span)) (sym there) in
     to_as (λ c. row_here negated a.item o.number (place_of o.span) (node_view nd.now) c ∙ ap (λ x. (under_minus negated (expression_of a.item x)).typed c) same) (λ ch. ap ch.type_at (sym (expression_of_stands a.item (operand_view o)).number)) whole
 
@@ -61,6 +63,6 @@ missing_typed a b d o negated env ty none made rest goes noted only = λ aloud F
     let n = number_of a.item o.number in
     let loud : is_aloud b.telling ≡ true = ap is_aloud goes.telling ∙ aloud in
     let row = row_any a b {env = env} n (var_any a b made rest) aloud F scope G s in
-    let whole = row_carried (ap (λ i. number_in i o.number) goes.item) row (nameless_noted b d o.number env ty loud noted only) in
+    let whole = row_carried (ap (λ i. number_in i o.number) goes.item) row (nameless_noted b d o.number env ty loud noted only) (surrounds_sees s) in
     let same : numbered o.number (place_of o.span) (missing (place_of o.span)) ≡ operand_view o = ap (λ m. numbered o.number (place_of o.span) (part_of m o.span)) (sym none) in
     to_as (λ c. missing_asks negated a.item o.number (place_of o.span) (place_of o.span) c ∙ ap (λ x. (under_minus negated (expression_of a.item x)).typed c) same) (λ ch. ap ch.type_at (sym (expression_of_stands a.item (operand_view o)).number)) whole

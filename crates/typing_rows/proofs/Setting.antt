@@ -31,7 +31,7 @@ use Rattle.typing_conditions.proofs.Nodes.{same_made}
 use Rattle.typing_conditions.proofs.Recording.{ends_own}
 use Rattle.typing_conditions.proofs.Hiding.{owns_also, owns_node, owns_row}
 use Rattle.typing_conditions.proofs.Branching.{carried_after}
-use Rattle.typing_conditions.proofs.Surrounding.{surrounds_on}
+use Rattle.typing_conditions.proofs.Surrounding.{surrounds_on, surrounds_sees}
 use Rattle.typing_steps.specs.States.{is_aloud, sight}
 use Rattle.typing_steps.specs.Demands.{TestedAs}
 use Rattle.typing_steps.specs.Typing.{TypesTo, TypesRow, TypesAny}
@@ -141,14 +141,14 @@ recorded_settable i n k at t formed row c =
 
 -- A field that is set: its part, its end, and its record.
 pub field_settable : (a b d f : Parts) (env : List Entry) (n : ℕ) (at : Place) (t : Tree) (ms : List ℕ) (ty : ℕ) → IsFormed n t → row_of t ≡ field_row → TypesParts a b env field_row (expressions_of a.item (all_operands n t)) ms → Goes a b →
-    EndsSettable b d env (path_of (path_in t 2 3)) (expressions_of b.item (all_operands n t)) ms ty → Goes b d → (is_aloud d.telling ≡ true → Records (sight d) (sight f) n ty) → TypesSettable a f env (expression_of a.item (numbered n at (inner t))) ty
+    EndsSettable b d env (path_of (path_in t 2 3)) (expressions_of b.item (all_operands n t)) ms ty → Goes b d → (is_aloud d.telling ≡ true → Records (sight d) (sight f) n ty env) → TypesSettable a f env (expression_of a.item (numbered n at (inner t))) ty
 field_settable a b d f env n at t ms ty formed row parts goes ends goes' records = λ aloud F scope G k s.
     let i = a.item in
     let m = number_of i n in
     let loud : is_aloud b.telling ≡ true = ap is_aloud goes.telling ∙ aloud in
     let p = parts aloud F scope G m s in
     let end = (subst (λ j. EndsSettable b d env (path_of (path_in t 2 3)) (expressions_of j (all_operands n t)) ms ty) goes.item ends) loud F scope G k m (surrounds_on p.carried.stays s) p.means in
-    let whole = row_carried (ap (λ j. number_in j n) (goes'.item ∙ goes.item)) (row_after p.carried end) (records (ap is_aloud goes'.telling ∙ loud)) in
+    let whole = row_carried (ap (λ j. number_in j n) (goes'.item ∙ goes.item)) (row_after p.carried end) (records (ap is_aloud goes'.telling ∙ loud)) (surrounds_sees s) in
     to_as (λ c. recorded_settable i n k at t formed row c) (λ ch. ap ch.type_at (sym (expression_of_stands i (numbered n at (inner t))).number)) whole
 
 -- what is no field asks nothing of a label

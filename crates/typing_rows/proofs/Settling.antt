@@ -6,9 +6,9 @@ use Rattle.type_model.specs.Types.{Typ}
 use Rattle.typing_model.specs.Demands.{Condition, same, treated, AllHold}
 use Rattle.typing_model.specs.Contexts.{Choice, Context, type_at, tell}
 use Rattle.typing_conditions.specs.Sights.{Report}
-use Rattle.typing_conditions.specs.Judging.{Judgement, judgements, AreKept, Follows, StartsWith, FallsShort, Meets}
+use Rattle.typing_conditions.specs.Judging.{Judgement, judgements, AreKept, Follows, StartsWith, FallsShort, AnySeen, Meets}
 use Rattle.typing_conditions.specs.Carrying.{Asks}
-use Rattle.typing_conditions.proofs.Judged.{hold_both, hold_left, hold_right, judged_both, counted_both, judged_kept, kept_left, kept_right, tell_both, follows_both, short_left, short_right, short_of_more, starts_all, starts_left, starts_right}
+use Rattle.typing_conditions.proofs.Judged.{hold_both, hold_left, hold_right, judged_both, counted_both, judged_kept, kept_left, kept_right, tell_both, starts_both, seen_both, follows_both, short_left, short_right, short_of_more, starts_all, starts_left, starts_right}
 use Rattle.typing_conditions.proofs.Carried.{Decides, take_none, less_or_more}
 use Rattle.typing_conditions.proofs.First.{starts_none, first_none, nothing_met}
 use Rattle.typing_rows.specs.Settled.{Fixes, AreFixed, Before, IsBehind, behind, Settled, Gives, GivesAll}
@@ -57,6 +57,8 @@ settled_trans {B} {asks} {further} {js} {ks} {rs} {ss} {fs} {gs} p q = record {
         same = judged_both c.kept (asks c) (further c) ∙ ap (λ xs. xs ++ judgements c.kept (further c)) one.same ∙ ap (λ xs. js ++ xs) two.same;
         holds = hold_both c.kept (asks c) (further c) one.holds two.holds;
         tells = tell_both c.kept (asks c) (further c) rs ss one.tells two.tells;
+        sees = seen_both AnySeen (asks c) (further c) two.starts one.sees two.sees;
+        starts = starts_both (asks c) (further c) one.starts two.starts;
       };
   follows = λ c b f. follows_both c.kept (asks c) (further c) js ks (p.follows c b (fixed_left c.chosen fs gs f)) (λ k. q.follows c (next_behind B c js fs b k (fixed_left c.chosen fs gs f)) (fixed_right c.chosen fs gs f));
   complete = λ c b h. elim (p.complete c b (hold_left c.kept (asks c) (further c) h)) [
@@ -108,7 +110,7 @@ settled_trans {B} {asks} {further} {js} {ks} {rs} {ss} {fs} {gs} p q = record {
 unfoldable pub settled_here : {B : Before} {asks others : Asks} {js : List Judgement} {rs : List Report} {fs : Fixes} → ((c : Context) → IsBehind B c → asks c ≡ others c) → Settled B asks js rs fs → Settled B others js rs fs
 settled_here {B} {asks} {others} {js} {rs} {fs} e p = record {
   counted = p.counted;
-  sound = λ c b k f. subst (λ cs. Meets c.kept cs js rs) (e c b) (p.sound c b k f);
+  sound = λ c b k f. subst (λ cs. Meets AnySeen c.kept cs js rs) (e c b) (p.sound c b k f);
   follows = λ c b f. subst (λ cs. Follows c.kept cs js) (e c b) (p.follows c b f);
   complete = λ c b h. subst (λ cs. ((judgements c.kept cs ≡ js) × AreFixed fs c.chosen) ⊎ FallsShort (judgements c.kept cs) js) (e c b) (p.complete c b (subst (AllHold c.kept) (sym (e c b)) h));
   first = λ k c b h. subst (λ cs. Decides c js (take k cs)) (e c b) (p.first k c b (subst (λ cs. AllHold c.kept (take k cs)) (sym (e c b)) h));
@@ -130,7 +132,7 @@ first_single {B} {js} fs ask complete (suc k) c b h =
 pub settled_same : {B : Before} (n : ℕ) (t : Typ) (u : Context → Typ) → ((c : Context) → IsBehind B c → u c ≡ t) → Settled B (λ c. same (type_at c n) (u c) ∷ []) [] [] ((n, t) ∷ [])
 settled_same {B} n t u e = record {
   counted = refl;
-  sound = λ c b k f. record { same = refl; holds = (f.0 ∙ sym (e c b), tt); tells = refl };
+  sound = λ c b k f. record { same = refl; holds = (f.0 ∙ sym (e c b), tt); tells = refl; sees = tt; starts = refl };
   follows = λ c b f. refl;
   complete = complete;
   first = first_single ((n, t) ∷ []) (λ c. same (type_at c n) (u c)) complete;
@@ -143,7 +145,7 @@ settled_same {B} n t u e = record {
 pub settled_told : {B : Before} (n : ℕ) → Settled B (λ c. tell n c) [] [] []
 settled_told {B} n = record {
   counted = refl;
-  sound = λ c b k f. record { same = refl; holds = (tt, tt); tells = refl };
+  sound = λ c b k f. record { same = refl; holds = (tt, tt); tells = refl; sees = (tt, tt); starts = refl };
   follows = λ c b f. refl;
   complete = complete;
   first = first_single [] (λ c. treated n c.env) complete;

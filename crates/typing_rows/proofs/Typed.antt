@@ -19,7 +19,7 @@ use Rattle.typing_conditions.specs.Sights as key
 use Rattle.typing_conditions.specs.Steps.{Records}
 use Rattle.typing_conditions.proofs.Carried.{carried_refl}
 use Rattle.typing_conditions.proofs.Meaning.{means_on, means_more}
-use Rattle.typing_conditions.proofs.Surrounding.{surrounds_on}
+use Rattle.typing_conditions.proofs.Surrounding.{surrounds_on, surrounds_sees}
 use Rattle.typing_conditions.proofs.Hiding.{below_none, below_more}
 use Rattle.typing_steps.specs.States.{is_aloud, sight}
 use Rattle.typing_steps.specs.Rows.{IsNoConstructor}
@@ -241,11 +241,11 @@ float_asked c n t e f is = ap (minus_asks c n t e) (sym is)
 -- - 1.5: the numeral is recorded, and the whole is a float
 pub float_typed : (a b : Parts) (env : List Entry) (i n number : ℕ) (at : Place) (t : Tree) → IsFormed n t → row_of t ≡ eneg_row → (expression_of i (filled_in n t 1)).form ≡ parts.a_float → number_in a.item number ≡ number_of i (filled_in n t 1).number →
     ((c : Context) → (expression_of i (filled_in n t 1)).negated c ≡ tell_typed (number_of i (filled_in n t 1).number) c ++ is_of c (number_of i (filled_in n t 1).number) float_type) →
-    (is_aloud a.telling ≡ true → Records (sight a) (sight b) number a.constants.float.0) → TypesRow a b env (λ c. (row_expression i n at t).typed c) (number_of i n) a.constants.float.0
+    (is_aloud a.telling ≡ true → Records (sight a) (sight b) number a.constants.float.0 env) → TypesRow a b env (λ c. (row_expression i n at t).typed c) (number_of i n) a.constants.float.0
 float_typed a b env i n number at t formed row form place asks records = λ aloud F scope G s.
     let e = expression_of i (filled_in n t 1) in
     let k = number_of i (filled_in n t 1).number in
     let inner_row : RowCarried F scope (λ c. is_of c k float_type) (sight a) G (sight a) k a.constants.float.0 = row_of_type (λ c. []) (λ ch. float_type) carried_refl (means_more s.fixed.float) (λ c. refl) in
-    let x = row_carried place inner_row (records aloud) in
+    let x = row_carried place inner_row (records aloud) (surrounds_sees s) in
     row_of_type (λ c. tell_typed k c ++ is_of c k float_type) (λ ch. float_type) x.carried (means_on x.carried.stays (means_more s.fixed.float))
     (λ c. ap (λ xs. xs ++ is_of c (number_of i n) float_type) (sym (asks c)) ∙ float_asked c (number_of i n) (token_in t 0) e e.form form ∙ ap (λ y. y.typed c) (sym (minus_term i n at t formed row)))

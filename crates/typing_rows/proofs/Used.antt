@@ -145,7 +145,7 @@ root_used {F} {scope} {G} {a} {b} {C} {N} {arity} {root} {m} {t} key free s f na
       told = [];
       reports = rest.reports ∙ sym (append-nil a.reports);
       counted = refl;
-      sound = λ r V c l. record { same = refl; holds = tt; tells = refl };
+      sound = λ r V c l. record { same = refl; holds = tt; tells = refl; sees = tt; starts = refl };
       follows = λ r V c l. refl;
       complete = λ named V c e h. inl (complete V c e);
       first = λ named k V c e h. inl (subst (λ cs. StartsWith [] (judgements c.kept cs)) (sym (take_none k)) (starts_none []));
@@ -188,7 +188,7 @@ root_used {F} {scope} {G} {a} {b} {C} {N} {arity} {root} {m} {t} key free s f na
       writes = written_next rest.written (λ r. opened.reached) refines;
       refines = refines;
       recorded = λ i k y e. rest.types i k ∙ e;
-      keeps = keeps_as rest.noted rest.types;
+      keeps = keeps_as rest.noted rest.scopes rest.types;
       written = λ y k e. rest.written y ∙ e;
       given = λ V ch h. given_right V ch letters G h;
       inside = λ h.

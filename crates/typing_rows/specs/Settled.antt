@@ -5,7 +5,7 @@ use Rattle.typing_model.specs.Demands.{AllHold}
 use Rattle.signature_model.specs.Declarations.{Name}
 use Rattle.typing_model.specs.Contexts.{Choice, Context, parameters}
 use Rattle.typing_conditions.specs.Sights.{Report, Sight}
-use Rattle.typing_conditions.specs.Judging.{Judgement, judgements, refused, AreKept, Follows, StartsWith, FallsShort, Meets}
+use Rattle.typing_conditions.specs.Judging.{Judgement, judgements, refused, AreKept, Follows, StartsWith, FallsShort, AnySeen, Meets}
 use Rattle.typing_conditions.specs.Carrying.{Asks}
 use Rattle.env_table.specs.declared.entries.Declaration.{Declaration}
 use Rattle.env_table.specs.declared.entries.Entry.{Entry}
@@ -56,7 +56,7 @@ behind B js fs = record { env = B.env; named = B.named; names = B.names; judged 
 -- that was kept. `first`: the same of the demands alone for the first conditions, where only they are met.
 pub record Settled (B : Before) (asks : Asks) (judged : List Judgement) (told : List Report) (fixes : Fixes) : Type 0 where
   pub counted : length told ≡ refused judged
-  pub sound : (c : Context) → IsBehind B c → AreKept c.kept judged → AreFixed fixes c.chosen → Meets c.kept (asks c) judged told
+  pub sound : (c : Context) → IsBehind B c → AreKept c.kept judged → AreFixed fixes c.chosen → Meets AnySeen c.kept (asks c) judged told
   pub follows : (c : Context) → IsBehind B c → AreFixed fixes c.chosen → Follows c.kept (asks c) judged
   pub complete : (c : Context) → IsBehind B c → AllHold c.kept (asks c) → ((judgements c.kept (asks c) ≡ judged) × AreFixed fixes c.chosen) ⊎ FallsShort (judgements c.kept (asks c)) judged
   pub first : (k : ℕ) (c : Context) → IsBehind B c → AllHold c.kept (take k (asks c)) → StartsWith judged (judgements c.kept (take k (asks c))) ⊎ FallsShort (judgements c.kept (take k (asks c))) judged

@@ -11,7 +11,7 @@ use Rattle.level_unify.specs.Solutions.{HaveNoBound}
 use Rattle.level_unify.specs.Unification.{Clashes}
 use Rattle.type_print_model.specs.Variables.{variable_name, variables_of}
 use Rattle.type_print.specs.Shown.{shown}
-use Rattle.type_print.specs.Texts.{PrintsWith}
+use Rattle.type_print.specs.Texts.{PrintsWith, PrintsTwoIn}
 use Rattle.typing_state.specs.declared.parts.Parts.{Parts}
 use Rattle.typing_state.specs.declared.demands.Verdict.{Verdict}
 use Rattle.typing_state.specs.declared.demands.Verdict.TheVariants.{Kept, Reported}
@@ -23,9 +23,11 @@ use Rattle.typing_state.specs.Types.{MadeOne}
 abbrev pub shared_names : List Node → (a b : ℕ) → ℕ → List ℕ
 shared_names nodes a b = variable_name [] (variables_of (shown nodes a) ++ variables_of (shown nodes b))
 
--- the texts of two types
-abbrev pub ShowTwo : List Node → List Entry → (a b : ℕ) → (first second : List ℕ) → Type 0
-ShowTwo nodes env a b first second = PrintsWith nodes env (shared_names nodes a b) (shown nodes a) first × PrintsWith nodes env (shared_names nodes a b) (shown nodes b) second
+-- the texts of two types, by each naming of origins that agrees with all nodes, and by one of their own
+pub record ShowTwo (nodes : List Node) (env : List Entry) (a b : ℕ) (first second : List ℕ) : Type 0 where
+  pub found_first : PrintsWith nodes env (shared_names nodes a b) (shown nodes a) first
+  pub found_second : PrintsWith nodes env (shared_names nodes a b) (shown nodes b) second
+  pub inside : PrintsTwoIn nodes env (shown nodes a) (shown nodes b) first second
 
 -- exactly one fault tells two types, and what keeps them apart
 pub record DiffersBy (old new : Parts) (at : Span) (found wanted : NodeRef) (kind : ClashKind) (env : List Entry) : Type 0 where

@@ -8,11 +8,12 @@ use Rattle.typing_model.specs.Contexts as contexts
 use Rattle.typing_model.specs.Parts.{Expression, Form, a_constructor, a_path, a_float, a_false, a_field, no_expression, other}
 use Rattle.typing_model.specs.Expressions.{applied_from, application, application_asks}
 use Rattle.typing_model.specs.Meanings.{recorded_expression}
+use Rattle.env_table.specs.declared.entries.Entry.{Entry}
 use Rattle.typing_conditions.specs.Sights.{Sight, letter, Letters, number_in}
 use Rattle.typing_conditions.specs.Frames.{Frame}
 use Rattle.typing_conditions.specs.Meanings.{Means}
 use Rattle.typing_conditions.specs.Steps.{Records}
-use Rattle.typing_conditions.specs.Carrying.{Scope, CarriedTo}
+use Rattle.typing_conditions.specs.Carrying.{Scope, SeesScope, CarriedTo}
 use Rattle.typing_conditions.proofs.Carried.{carried_refl, carried_trans}
 use Rattle.typing_conditions.proofs.Recording.{ends_same, row_recorded}
 use Rattle.typing_conditions.proofs.Answering.{then_to, to_as}
@@ -62,11 +63,11 @@ application_as c n head es no_expression no_one = refl
 application_as c n head es other no_one = refl
 
 -- The whole row, where its type is recorded for the node's number in the item.
-pub application_recorded : {F : Frame} {scope : Scope} {a b d e : Sight} {G : Letters} {n number found m : ℕ} (at : Place) (head : Expression) (es : List Expression) → number_in d.item number ≡ n → IsNoConstructor head.form →
-    CarriedTo F scope (λ c. head.typed c) a G b G (λ ch. ch.type_at head.node) found → TypesSome F scope b G d (λ ch. ch.type_at head.node) n head.at es [] m → Records d e number m →
+pub application_recorded : {F : Frame} {scope : Scope} {a b d e : Sight} {G : Letters} {n number found m : ℕ} {env : List Entry} (at : Place) (head : Expression) (es : List Expression) → number_in d.item number ≡ n → IsNoConstructor head.form →
+    CarriedTo F scope (λ c. head.typed c) a G b G (λ ch. ch.type_at head.node) found → TypesSome F scope b G d (λ ch. ch.type_at head.node) n head.at es [] m → Records d e number m env → SeesScope F scope a G env →
     CarriedTo F scope (λ c. (recorded_expression n (application n at head es)).typed c) a G e G (λ ch. ch.type_at n) m
-application_recorded {n = n} at head es number plain first p r =
+application_recorded {n = n} at head es number plain first p r sees =
     let given = then_to first.carried (some_all p) in
-    let whole = row_recorded p.own n number given (ends_same n (λ ch. result_of ch n 0 (ch.type_at head.node) es)) r (λ known. owns_row p.below.of_row) in
+    let whole = row_recorded p.own n number given (ends_same n (λ ch. result_of ch n 0 (ch.type_at head.node) es)) r sees (λ known. owns_row p.below.of_row) in
     to_as (λ c. ap (λ xs. contexts.tell_typed n c ++ xs) (append_assoc (head.typed c) (given_from c n 0 0 head.at (type_at c head.node) es) (same (type_at c n) (result_of c.chosen n 0 (type_at c head.node) es) ∷ []) ∙
     ap (λ xs. head.typed c ++ xs) (applied_split c n 0 0 head.at (type_at c head.node) es) ∙ application_as c n head es head.form plain)) (λ ch. refl) whole

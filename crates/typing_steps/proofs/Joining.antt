@@ -18,11 +18,12 @@ use Rattle.typing_state.specs.Types.{level_for, any_scope, MakesVar, MadeOne, Jo
 use Rattle.typing_conditions.specs.Locals.{IsOwn}
 use Rattle.typing_conditions.specs.Rows.{Row}
 use Rattle.typing_conditions.specs.Standing.{IsIn}
-use Rattle.typing_conditions.proofs.Judged.{follows_silent}
+use Rattle.typing_conditions.proofs.Judged.{seen_none, start_none, follows_silent}
 use Rattle.typing_conditions.proofs.Own.{own_of}
 use Rattle.typing_conditions.proofs.Rows.{row_var}
 use Rattle.typing_conditions.proofs.Fresh.{fresh_is_one}
 use Rattle.typing_conditions.specs.Sights.{Sight, Key, value_of, Letters, IsKnownFor, SameAt}
+use Rattle.typing_conditions.specs.Seeing.{IsSeen}
 use Rattle.typing_conditions.specs.Frames.{Frame, Reaches, IsOpen, AreOpen}
 use Rattle.typing_conditions.specs.Meanings.{Means}
 use Rattle.typing_conditions.specs.Judging.{StartsWith, FallsShort}
@@ -56,7 +57,7 @@ same_joined {F} {scope} {G} {first} {second} {m} {n} {a} {b} sound p q rest tigh
       let old = one.read V l.reads in
       let g = agrees_before stays l.agrees in
       let loose = fits_loosely a.nodes V old.0.fits in
-      record { same = refl; holds = (p.is V c.chosen loose g ∙ old.1 ∙ sym (q.is V c.chosen loose g), tt); tells = refl };
+      record { same = refl; holds = (p.is V c.chosen loose g ∙ old.1 ∙ sym (q.is V c.chosen loose g), tt); tells = refl; sees = tt; starts = refl };
   follows = λ r V c l. refl;
   complete = λ named. complete;
   first = λ named. first_one (λ c. same (first c.chosen) (second c.chosen)) complete;
@@ -120,6 +121,8 @@ scoped_letter {F} {scope} {G} {a} {b} {s} {t} {n} {o} {asks} key free limits r m
       same = limits.silent c;
       holds = limits.holds c (subst (IsInScope o) (sym l.agrees.given.0.is) (l.reads.fits.each n (Var F.level o) (made_here (state a.nodes s) (state b.nodes t) n (Var F.level o) makes) not_bound));
       tells = limits.reports_none c;
+      sees = seen_none (IsSeen l.scopes l.types V) (asks c) (limits.treats c);
+      starts = start_none (asks c) (limits.treats c);
     };
     follows = λ r V c l. follows_silent c.kept (asks c) (limits.silent c);
     complete = λ named V c e h. inl (record { same = limits.silent c; types = with_type V n (value_of c.chosen key); on = goes V c e (limits.gives c h); hidden_too = (tt, tt) });
@@ -159,7 +162,7 @@ with_level k a = record a { level = k }
 
 -- a call that changes the nodes alone does so whatever the level is
 at_level : (a b : Parts) (k : ℕ) → OnlyStore a b → OnlyNodes (with_level k (sight a)) (with_level k (sight b))
-at_level a b k rest = let r = only_nodes a b rest in record { types = r.types; noted = r.noted; written = r.written; reports = r.reports; aloud = r.aloud; item = r.item; level = refl; fixed = r.fixed }
+at_level a b k rest = let r = only_nodes a b rest in record { types = r.types; noted = r.noted; scopes = r.scopes; written = r.written; reports = r.reports; aloud = r.aloud; item = r.item; level = refl; fixed = r.fixed }
 
 level_below : (l : ℕ) → level_for l ≢ bound_level
 level_below l = below (level_for l) (min_right l (2 ^ 32 - 2))

@@ -1,5 +1,5 @@
 -- Limits: a new variable of a level and a scope is made one with a type, whose variables are of at most that level then, and whose origins are in the scope.
-use Rattle.std.proofs.Common.{◌≡◌, ◌≢◌, ◌∙◌, ◌⊎◌, inl, inr, ◌++◌, ℕ, zero, suc, ◌<◌, ◌≤◌, false, List, [], ◌∷◌, take, length, Some, refl, sym, ap, subst, arith, append-nil}
+use Rattle.std.proofs.Common.{◌≡◌, ◌≢◌, ◌∙◌, ◌⊎◌, inl, inr, ◌++◌, ℕ, zero, suc, ◌<◌, ◌≤◌, false, true, List, [], ◌∷◌, take, length, Some, refl, sym, ap, subst, arith, append-nil}
 use Rattle.std.specs.Prelude.{slice_get}
 use Rattle.std.proofs.lemmas.Option.{slice_get_within}
 use Rattle.std.proofs.lemmas.Bool.{eqb-true}
@@ -20,7 +20,7 @@ use Rattle.level_unify.specs.Unification.{Unified}
 use Rattle.level_unify.proofs.Unified.{fits_loosely, fits_under, under_fits}
 use Rattle.typing_conditions.specs.Locals.{IsOwn, Refines, Local, Within, IsContext}
 use Rattle.typing_conditions.specs.Standing.{IsIn}
-use Rattle.typing_conditions.proofs.Judged.{follows_silent}
+use Rattle.typing_conditions.proofs.Judged.{seen_none, start_none, follows_silent}
 use Rattle.typing_conditions.proofs.Own.{own_of}
 use Rattle.typing_conditions.proofs.Regions.{any_in}
 use Rattle.typing_conditions.proofs.Steps.{local_then, local_unified, refines_made, refines_then}
@@ -28,9 +28,10 @@ use Rattle.typing_conditions.proofs.Instances.{local_node, local_more, new_withi
 use Rattle.typing_conditions.proofs.Bindings.{any_before, any_after}
 use Rattle.typing_conditions.proofs.Later.{result_after}
 use Rattle.typing_conditions.specs.Sights.{Sight, Letters}
+use Rattle.typing_conditions.specs.Seeing.{IsSeen}
 use Rattle.typing_conditions.specs.Frames.{Frame, Reaches, IsHeld, IsOpen}
 use Rattle.typing_conditions.specs.Meanings.{Means}
-use Rattle.typing_conditions.specs.Judging.{judgements, StartsWith, TellAll}
+use Rattle.typing_conditions.specs.Judging.{judgements, StartsWith, TellAll, treats_none}
 use Rattle.typing_conditions.specs.Steps.{OnlyNodes}
 use Rattle.typing_conditions.specs.Carrying.{Asks, Scope, Enters, Stays, Continues, Carried}
 use Rattle.typing_conditions.proofs.Stays.{agrees_before}
@@ -48,10 +49,11 @@ pub record LimitAsks (scope : ℕ) (type : Choice → Typ) (asks : Asks) : Type 
   pub silent : (c : Context) → judgements c.kept (asks c) ≡ []
   pub silent_first : (k : ℕ) (c : Context) → judgements c.kept (take k (asks c)) ≡ []
   pub reports_none : (c : Context) → TellAll c.kept (asks c) []
+  pub treats : (c : Context) → treats_none (asks c) ≡ true
 
 -- the condition that the definitions have for it
 pub made_asked : (scope : ℕ) (type : Choice → Typ) → LimitAsks scope type (λ c. made scope (type c.chosen) ∷ [])
-made_asked scope type = record { gives = λ c h. h.0; holds = λ c h. (h, tt); silent = λ c. refl; silent_first = first; reports_none = λ c. refl }
+made_asked scope type = record { gives = λ c h. h.0; holds = λ c h. (h, tt); silent = λ c. refl; silent_first = first; reports_none = λ c. refl; treats = λ c. refl }
   where
     first : (k : ℕ) (c : Context) → judgements c.kept (take k (made scope (type c.chosen) ∷ [])) ≡ []
     first zero c = refl
@@ -59,7 +61,7 @@ made_asked scope type = record { gives = λ c h. h.0; holds = λ c h. (h, tt); s
 
 -- nothing is asked for the scope that limits nothing
 pub level_asked : (type : Choice → Typ) → LimitAsks no_scope type (λ c. [])
-level_asked type = record { gives = λ c h. in_any_scope (type c.chosen); holds = λ c h. tt; silent = λ c. refl; silent_first = λ k c. ap (judgements c.kept) (take_none k); reports_none = λ c. refl }
+level_asked type = record { gives = λ c h. in_any_scope (type c.chosen); holds = λ c h. tt; silent = λ c. refl; silent_first = λ k c. ap (judgements c.kept) (take_none k); reports_none = λ c. refl; treats = λ c. refl }
 
 -- types that fit loosely still do with a new variable
 loose_with_var : (old new : State) (n l o : ℕ) (V : Types) → Makes old new n (Var l o) → Loose old.nodes V → Loose new.nodes V
@@ -175,7 +177,7 @@ module _ {F : Frame} {a b : Sight} {mid : State} {v l o m : ℕ} (at : Limited F
     reaches = λ r. limit_reached;
     writes = written_next at.rest.written (λ r. limit_reached) (λ r. refines);
     recorded = λ i k x e. at.rest.types i k ∙ e;
-    keeps = keeps_as at.rest.noted at.rest.types;
+    keeps = keeps_as at.rest.noted at.rest.scopes at.rest.types;
     written = λ x n e. at.rest.written x ∙ e;
     given = λ V ch h. h;
     inside = inside_longer a b at.rest.types at.rest.written longer;
@@ -211,7 +213,7 @@ limit_asked {F} {a} {b} {mid} {v} {l} {o} {m} {scope} {G} {type} {asks} at p lim
       let before = (one at p.open_node).read V r.reads in
       let here : IsInScope o (V v) = before.0.fits.each v (Var l o) (there at p.open_node) at.free in
       let is = p.is V c.chosen (stays.loose V (fits_loosely b.nodes V r.reads.fits)) (agrees_before stays r.agrees) in
-      record { same = limits.silent c; holds = limits.holds c (subst (IsInScope o) (before.1 ∙ sym is) here); tells = limits.reports_none c };
+      record { same = limits.silent c; holds = limits.holds c (subst (IsInScope o) (before.1 ∙ sym is) here); tells = limits.reports_none c; sees = seen_none (IsSeen r.scopes r.types V) (asks c) (limits.treats c); starts = start_none (asks c) (limits.treats c) };
   follows = λ reached V c r. follows_silent c.kept (asks c) (limits.silent c);
   complete = λ named V c e h. inl (goes V c e (limits.gives c h));
   first = λ named k V c e h. inl (subst (StartsWith []) (sym (limits.silent_first k c)) (starts_none []));

@@ -12,11 +12,12 @@ use Rattle.type_nodes.specs.Nodes.{Tuple, IsNode}
 use Rattle.type_nodes.specs.Changes.{Makes}
 use Rattle.typing_state.specs.declared.parts.Parts.{Parts}
 use Rattle.typing_state.specs.Goes.{OnlyStore}
+use Rattle.env_table.specs.declared.entries.Entry.{Entry}
 use Rattle.typing_conditions.specs.Sights.{Sight, Letters, number_in}
 use Rattle.typing_conditions.specs.Frames.{Frame, Reaches}
 use Rattle.typing_conditions.specs.Meanings.{none_mean, types_by}
 use Rattle.typing_conditions.specs.Steps.{Records}
-use Rattle.typing_conditions.specs.Carrying.{Scope, Carried, CarriedTo}
+use Rattle.typing_conditions.specs.Carrying.{Scope, SeesScope, Carried, CarriedTo}
 use Rattle.typing_conditions.proofs.Carried.{carried_refl, carried_trans, carried_as}
 use Rattle.typing_conditions.proofs.Meaning.{all_mean_on, all_mean_more}
 use Rattle.typing_conditions.proofs.Recording.{ends_same, row_recorded}
@@ -53,11 +54,11 @@ pub parts_all : {F : Frame} {scope : Scope} {a b : Sight} {G : Letters} {all : L
 parts_all p = carried_as (λ c. sym (append-nil (p.done c)) ∙ sym (p.asks c)) p.carried
 
 -- A tuple: its parts in order, the tuple of their types, and the record of its node.
-pub tuple_recorded : (b d : Parts) {F : Frame} {scope : Scope} {a e : Sight} {G : Letters} {ms : List ℕ} {n number m : ℕ} (at : Place) (es : List Expression) → number_in d.item number ≡ n → Reaches F (sight b) → TypesParts F scope a G (sight b) es [] ms →
-    (All (IsNode b.store.nodes) ms → Makes b.store d.store m (Tuple ms)) → OnlyStore b d → Records (sight d) e number m →
+pub tuple_recorded : (b d : Parts) {F : Frame} {scope : Scope} {a e : Sight} {G : Letters} {ms : List ℕ} {n number m : ℕ} {env : List Entry} (at : Place) (es : List Expression) → number_in d.item number ≡ n → Reaches F (sight b) → TypesParts F scope a G (sight b) es [] ms →
+    (All (IsNode b.store.nodes) ms → Makes b.store d.store m (Tuple ms)) → OnlyStore b d → Records (sight d) e number m env → SeesScope F scope a G env →
     CarriedTo F scope (λ c. (recorded_expression n (tuple_expression n at es)).typed c) a G e G (λ ch. ch.type_at n) m
-tuple_recorded b d {F} {scope} {a} {e} {G} {ms} {n} {number} {m} at es place reached p made rest r =
+tuple_recorded b d {F} {scope} {a} {e} {G} {ms} {n} {number} {m} at es place reached p made rest r sees =
     let whole = then_made (parts_all p) (tuple_over b d {scope = scope} reached p.means made rest) in
     let typed : CarriedTo F scope (λ c. typed_all c es) a G (sight d) G (λ ch. type.Tuple (types_of (map (λ (f : Expression). ch.type_at f.node) es))) m =
     to_as (λ c. refl) (λ ch. ap (λ ts. type.Tuple (types_of ts)) (sym (append-nil (types_by ch p.types)) ∙ sym (p.gives ch))) whole in
-    row_recorded [] n place typed (ends_same n (λ ch. type.Tuple (types_of (map (λ (f : Expression). ch.type_at f.node) es)))) r (λ known. owns_none)
+    row_recorded [] n place typed (ends_same n (λ ch. type.Tuple (types_of (map (λ (f : Expression). ch.type_at f.node) es)))) r sees (λ known. owns_none)

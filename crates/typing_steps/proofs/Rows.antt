@@ -15,7 +15,7 @@ use Rattle.typing_state.specs.Types.{MakesVar, any_scope}
 use Rattle.typing_conditions.specs.Sights.{Sight, own, Letters, number_in}
 use Rattle.typing_conditions.specs.Frames.{Frame}
 use Rattle.typing_conditions.specs.Steps.{Records}
-use Rattle.typing_conditions.specs.Carrying.{Asks, Scope, CarriedTo}
+use Rattle.typing_conditions.specs.Carrying.{Asks, Scope, SeesScope, CarriedTo}
 use Rattle.typing_conditions.proofs.Recording.{ends_own, row_recorded}
 use Rattle.typing_conditions.proofs.Hiding.{owns_node}
 use Rattle.typing_conditions.proofs.Answering.{to_as}
@@ -24,9 +24,9 @@ use Rattle.typing_steps.proofs.Making.{var_made}
 use Rattle.typing_steps.proofs.Comparing.{equal_asked}
 
 -- A row whose type is recorded then carries what its node asks in all, and its node has its type.
-pub row_carried : {F : Frame} {scope : Scope} {asks : Asks} {a b d : Sight} {G : Letters} {n number m : ℕ} → number_in b.item number ≡ n → RowCarried F scope asks a G b n m → Records b d number m →
+pub row_carried : {F : Frame} {scope : Scope} {asks : Asks} {a b d : Sight} {G : Letters} {n number m : ℕ} {env : List Entry} → number_in b.item number ≡ n → RowCarried F scope asks a G b n m → Records b d number m env → SeesScope F scope a G env →
     CarriedTo F scope (λ c. tell_typed n c ++ asks c) a G d G (λ ch. ch.type_at n) m
-row_carried {n = n} number row r = to_as (λ c. ap (λ cs. tell_typed n c ++ cs) (row.all c)) (λ ch. refl) (row_recorded row.own n number row.typed row.end r row.owns)
+row_carried {n = n} number row r sees = to_as (λ c. ap (λ cs. tell_typed n c ++ cs) (row.all c)) (λ ch. refl) (row_recorded row.own n number row.typed row.end r sees row.owns)
 
 -- what a row asks may be written in another way
 pub row_asks : (a b : Parts) {env : List Entry} {asks others : Asks} {n m : ℕ} → ((c : Context) → asks c ≡ others c) → TypesRow a b env asks n m → TypesRow a b env others n m

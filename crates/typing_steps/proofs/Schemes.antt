@@ -95,6 +95,7 @@ group_left a b c d {F} {J} {roots} {held} {names} only lowered level rest sound 
       lowered = lowered ∙ ap suc (sym next.level);
       types = λ i p. next.types i p ∙ only.types i p;
       noted = λ i p h. next.noted i p (only.noted i p h);
+      scopes = λ i p env h. next.scopes i p env (only.scopes i p env h);
       written = λ x. next.written x ∙ only.written x;
       reports = next.reports ∙ only.reports;
       aloud = next.aloud ∙ only.aloud;

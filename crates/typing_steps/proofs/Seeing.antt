@@ -29,6 +29,7 @@ pub only_nodes : (a b : Parts) → OnlyStore a b → OnlyNodes (sight a) (sight 
 only_nodes a b s = record {
   types = λ i p. ap (λ x. (sight (record a { index = x })).types i p) s.index;
   noted = λ i p h. ap (λ x. (sight (record a { index = x })).noted i p) s.index ∙ h;
+  scopes = λ i p env h. ap (λ x. (sight (record a { index = x })).scopes i p) s.index ∙ h;
   written = λ x. ap (λ w. written_in w x) s.written;
   reports = ap (λ f. (sight (record a { faults = f })).reports) s.faults;
   aloud = ap is_aloud s.telling;
@@ -43,6 +44,7 @@ only_reports a b s = record {
   nodes = ap (λ (x : State). x.nodes) s.store;
   types = λ i p. ap (λ x. (sight (record a { index = x })).types i p) s.index;
   noted = λ i p h. ap (λ x. (sight (record a { index = x })).noted i p) s.index ∙ h;
+  scopes = λ i p env h. ap (λ x. (sight (record a { index = x })).scopes i p) s.index ∙ h;
   written = λ x. ap (λ w. written_in w x) s.written;
   aloud = ap is_aloud s.telling;
   item = s.item;

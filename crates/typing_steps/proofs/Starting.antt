@@ -109,7 +109,7 @@ constants_known a reached roots h = record {
 
 -- What stands for a declaration or an exception does so later on, and among more roots.
 pub declared_steady : IsSteady as_declared
-declared_steady = record { declaration = λ before step more h. declared_after before step more h; exception = λ before step more h. exception_after before step more h }
+declared_steady = record { declaration = λ before step more h. declared_after before step more h; exception = λ before step more h. exception_after before step more h; declared = λ h. h; excepted = λ h. h }
 
 -- The start of an item, where the free variables of the roots are of at most its level.
 module _ (a : Sight) (J : Types) (roots : List ℕ) (sound : IsSound a.nodes) (own : IsOwn a.nodes J) (context : IsContext a.nodes J roots a.level) (free : a.level < bound_level) (known : Bool) where

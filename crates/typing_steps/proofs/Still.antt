@@ -1,9 +1,8 @@
 -- Calls after which nothing is asked: what they change no condition sees.
-use Rattle.std.proofs.Common.{◌≡◌, ◌∙◌, inl, ℕ, zero, suc, Bool, true, false, ◌&&◌, ◌==◌, if◌then◌else◌, List, [], ◌∷◌, take, Some, None, refl, sym, ap, subst, append-nil}
+use Rattle.std.proofs.Common.{◌≡◌, ◌∙◌, inl, ℕ, Bool, true, false, ◌&&◌, ◌==◌, if◌then◌else◌, List, [], ◌∷◌, take, Some, None, refl, sym, ap, subst, append-nil}
 use Rattle.std.specs.Prelude.{option_map}
 use Rattle.std.proofs.lemmas.Bool.{eqb-true}
 use Rattle.text_terms.specs.declared.Span.{Span}
-use Rattle.signature_model.specs.Entries.{Environment}
 use Rattle.typing_laws.proofs.Bools.{and_cases}
 use Rattle.typing_model.specs.Demands.{treated, AllHold}
 use Rattle.typing_model.specs.Contexts.{Context}
@@ -21,13 +20,15 @@ use Rattle.typing_state.specs.declared.demands.Verdict.TheVariants.{Kept, Report
 use Rattle.typing_state.specs.Goes.{faults_of, OnlyIndex, OnlyStoreAndFaults, Goes, Told}
 use Rattle.typing_state.specs.Notes.{NotedFirst, Noted, NotedNameless}
 use Rattle.typing_state.specs.Demands.{EqualIs}
-use Rattle.typing_conditions.specs.Sights.{Sight, number_in, Letters}
+use Rattle.typing_conditions.specs.Sights.{AreScopesIn, Sight, number_in, Letters}
+use Rattle.typing_conditions.specs.Seeing.{IsSeen}
 use Rattle.typing_conditions.specs.Hiding.{NotesRow}
 use Rattle.typing_conditions.specs.Frames.{Frame, IsOpen}
-use Rattle.typing_conditions.specs.Judging.{judgements, StartsWith, TellAll}
+use Rattle.typing_conditions.specs.Judging.{judgements, StartsWith, TellAll, treats_none}
 use Rattle.typing_conditions.specs.Steps.{OnlyReports}
-use Rattle.typing_conditions.specs.Carrying.{Asks, Scope, Stays, Carried}
-use Rattle.typing_conditions.proofs.Judged.{follows_silent}
+use Rattle.typing_conditions.specs.Carrying.{Asks, Scope, SeesScope, Stays, Carried}
+use Rattle.typing_conditions.proofs.Judged.{seen_none, start_none, follows_silent}
+use Rattle.typing_conditions.proofs.Recording.{told_at}
 use Rattle.typing_conditions.proofs.Carried.{take_none}
 use Rattle.typing_conditions.proofs.First.{starts_none}
 use Rattle.typing_conditions.proofs.Framing.{no_bound}
@@ -35,15 +36,16 @@ use Rattle.typing_conditions.proofs.Equals.{reports_stay, goes_as, unified_stays
 use Rattle.typing_steps.specs.States.{type_in, is_noted, is_aloud, reports_of, written_in, fixed_of, sight}
 use Rattle.typing_steps.specs.Warning.{OnlyNotes}
 use Rattle.typing_steps.proofs.Seeing.{same_state, nodes_of_both, reports_of_both}
-use Rattle.typing_steps.proofs.Recording.{noted_still, noted_now}
+use Rattle.typing_steps.proofs.Recording.{noted_still, noted_now, scopes_still, noted_scope}
 use Rattle.typing_conditions.proofs.Hiding.{keeps_as, settles_none, none_doubtful}
 
--- conditions that hold in any case, of which none is a demand
+-- conditions that hold in any case, of which none is a demand, and that say of no node that it is treated
 pub record IsIdle (asks : Asks) : Type 0 where
   pub holds : (c : Context) → AllHold c.kept (asks c)
   pub silent : (c : Context) → judgements c.kept (asks c) ≡ []
   pub silent_first : (k : ℕ) (c : Context) → judgements c.kept (take k (asks c)) ≡ []
   pub reports_none : (c : Context) → TellAll c.kept (asks c) []
+  pub treats : (c : Context) → treats_none (asks c) ≡ true
 
 -- they are carried where nothing changes
 pub carried_idle : {F : Frame} {scope : Scope} {asks : Asks} {a b : Sight} {G : Letters} → IsIdle asks → OnlyReports a b → b.reports ≡ a.reports → Carried F scope asks a G b G
@@ -56,7 +58,7 @@ carried_idle {F} {scope} {asks} {a} {b} {G} idle rest same = record {
   told = [];
   reports = same ∙ sym (append-nil a.reports);
   counted = refl;
-  sound = λ r V c l. record { same = idle.silent c; holds = idle.holds c; tells = idle.reports_none c };
+  sound = λ r V c l. record { same = idle.silent c; holds = idle.holds c; tells = idle.reports_none c; sees = seen_none (IsSeen l.scopes l.types V) (asks c) (idle.treats c); starts = start_none (asks c) (idle.treats c) };
   follows = λ r V c l. follows_silent c.kept (asks c) (idle.silent c);
   complete = λ named V c e h. inl (record { same = idle.silent c; types = V; on = goes_as rest e; hidden_too = (tt, tt) });
   first = λ named k V c e h. inl (subst (StartsWith []) (sym (idle.silent_first k c)) (starts_none []));
@@ -69,15 +71,7 @@ idle_hides F scope G idle rest same = refl
 
 -- where nothing is asked
 pub none_idle : IsIdle (λ c. [])
-none_idle = record { holds = λ c. tt; silent = λ c. refl; silent_first = λ k c. ap (judgements c.kept) (take_none k); reports_none = λ c. refl }
-
--- where only the environment in which a node is treated is made known
-pub treated_idle : (n : ℕ) (env : Context → Environment) → IsIdle (λ c. treated n (env c) ∷ [])
-treated_idle n env = record { holds = λ c. (tt, tt); silent = λ c. refl; silent_first = first; reports_none = λ c. refl }
-  where
-    first : (k : ℕ) (c : Context) → judgements c.kept (take k (treated n (env c) ∷ [])) ≡ []
-    first zero c = refl
-    first (suc k) c = ap (judgements c.kept) (take_none k)
+none_idle = record { holds = λ c. tt; silent = λ c. refl; silent_first = λ k c. ap (judgements c.kept) (take_none k); reports_none = λ c. refl; treats = λ c. refl }
 
 -- where the state is as before nothing is asked
 pub state_still : (a b : Parts) {F : Frame} {scope : Scope} {G : Letters} → b ≡ a → Carried F scope (λ c. []) (sight a) G (sight b) G
@@ -100,6 +94,7 @@ untyped_noted a b number seen none noted rest = record {
   nodes = ap (λ (s : State). s.nodes) rest.store;
   types = by a.telling noted;
   noted = still a.telling noted;
+  scopes = scopes_on a.telling noted;
   written = λ x. ap (λ w. written_in w x) rest.written;
   aloud = ap is_aloud rest.telling;
   item = rest.item;
@@ -115,6 +110,10 @@ untyped_noted a b number seen none noted rest = record {
     still Quiet h i p k = ap (λ x. is_noted (seen_at x i p)) h ∙ k
     still Aloud h i p k = noted_still a b number seen h i p k
 
+    scopes_on : (t : Telling) → Noted t a b number seen → AreScopesIn (sight a).scopes (sight b).scopes
+    scopes_on Quiet h i p env k = ap (λ x. option_map (λ (s : Seen). s.env) (seen_at x i p)) h ∙ k
+    scopes_on Aloud h i p env k = scopes_still a b number seen h i p env k
+
 -- so the row of a node is noted without a type
 pub untyped_row : (a b : Parts) (n m number : ℕ) (seen : Seen) → seen.ty ≡ None → is_aloud a.telling ≡ true → Noted a.telling a b number seen → OnlyIndex a b → number_in a.item number ≡ n → NotesRow (sight a) (sight b) n m
 untyped_row a b n m number seen none aloud noted rest is = by a.telling aloud noted
@@ -124,22 +123,23 @@ untyped_row a b n m number seen none aloud noted rest is = by a.telling aloud no
     by Aloud e h = record {
       place = number;
       number = sym is;
-      keeps = keeps_as (noted_still a b number seen h) (untyped_as a b number seen none h);
+      keeps = keeps_as (noted_still a b number seen h) (scopes_still a b number seen h) (untyped_as a b number seen none h);
       none = ap is_noted h.before;
       untyped = ap type_in h.before;
       now = noted_now a b number seen h;
       only = λ k e. absurd (let f : None ≡ Some k = sym (untyped_as a b number seen none h a.item number ∙ ap type_in h.before) ∙ e in cc);
     }
 
--- `note_plain`: it is recorded in which environment a node is treated
-pub plain_noted : (a b : Parts) {F : Frame} {scope : Scope} {G : Letters} (number : ℕ) (env : List Entry) (n : ℕ) (told : Context → Environment) → NotedNameless a b number env None → OnlyIndex a b →
-    Carried F scope (λ c. treated n (told c) ∷ []) (sight a) G (sight b) G
-plain_noted a b number env n told (names, none, noted) rest =
-    carried_idle (treated_idle n told) (untyped_noted a b number (record { env = env; ty = None; names = names }) refl noted rest) (ap (λ f. (sight (record a { faults = f })).reports) rest.faults)
+-- `note_plain`: it is recorded in which environment a node is treated, whose names stand for those of the scope
+pub plain_noted : (a b : Parts) {F : Frame} {scope : Scope} {G : Letters} (number : ℕ) (env : List Entry) (n : ℕ) → number_in a.item number ≡ n → is_aloud a.telling ≡ true → NotedNameless a b number env None → OnlyIndex a b → SeesScope F scope (sight a) G env →
+    Carried F scope (λ c. treated n c.env ∷ []) (sight a) G (sight b) G
+plain_noted a b number env n place aloud (names, none, noted) rest sees =
+    let seen : Seen = record { env = env; ty = None; names = names } in
+    told_at n (sym place) (carried_idle none_idle (untyped_noted a b number seen refl noted rest) (ap (λ f. (sight (record a { faults = f })).reports) rest.faults)) (noted_scope a b number seen aloud noted) sees
 
 -- nothing is recorded
 pub notes_none : (a : Parts) → OnlyNotes a a
-notes_none a = record { rest = record { store = refl; faults = refl; written = refl; item = refl; level = refl; telling = refl; constants = refl }; types = λ i p. refl; noted = λ i p h. h }
+notes_none a = record { rest = record { store = refl; faults = refl; written = refl; item = refl; level = refl; telling = refl; constants = refl }; types = λ i p. refl; noted = λ i p h. h; scopes = λ i p env h. h }
 
 -- one record after another
 pub notes_more : (a b d : Parts) → OnlyNotes a b → OnlyNotes b d → OnlyNotes a d
@@ -155,11 +155,12 @@ notes_more a b d p q = record {
   };
   types = λ i k. q.types i k ∙ p.types i k;
   noted = λ i k h. q.noted i k (p.noted i k h);
+  scopes = λ i k env h. q.scopes i k env (p.scopes i k env h);
 }
 
 -- what `note_plain` records
 pub plain_notes : (a b : Parts) (number : ℕ) (env : List Entry) → NotedNameless a b number env None → OnlyIndex a b → OnlyNotes a b
-plain_notes a b number env (names, none, noted) rest = let only = untyped_noted a b number (record { env = env; ty = None; names = names }) refl noted rest in record { rest = rest; types = only.types; noted = only.noted }
+plain_notes a b number env (names, none, noted) rest = let only = untyped_noted a b number (record { env = env; ty = None; names = names }) refl noted rest in record { rest = rest; types = only.types; noted = only.noted; scopes = only.scopes }
 
 -- no condition sees what is recorded without a type
 pub notes_unseen : (a b : Parts) → OnlyNotes a b → OnlyReports (sight a) (sight b)
@@ -167,6 +168,7 @@ notes_unseen a b h = record {
   nodes = ap (λ (s : State). s.nodes) h.rest.store;
   types = h.types;
   noted = h.noted;
+  scopes = h.scopes;
   written = λ x. ap (λ w. written_in w x) h.rest.written;
   aloud = ap is_aloud h.rest.telling;
   item = h.rest.item;
@@ -184,6 +186,7 @@ quiet_noted a b number seen quiet noted rest = record {
   nodes = ap (λ (s : State). s.nodes) rest.store;
   types = by a.telling quiet noted;
   noted = still a.telling quiet noted;
+  scopes = scopes_on a.telling quiet noted;
   written = λ x. ap (λ w. written_in w x) rest.written;
   aloud = ap is_aloud rest.telling;
   item = rest.item;
@@ -198,6 +201,10 @@ quiet_noted a b number seen quiet noted rest = record {
     still : (t : Telling) → is_aloud t ≡ false → Noted t a b number seen → (i p : ℕ) → is_noted (seen_at a.index i p) ≡ true → is_noted (seen_at b.index i p) ≡ true
     still Quiet e h i p k = ap (λ x. is_noted (seen_at x i p)) h ∙ k
     still Aloud e h i p k = absurd (cc)
+
+    scopes_on : (t : Telling) → is_aloud t ≡ false → Noted t a b number seen → AreScopesIn (sight a).scopes (sight b).scopes
+    scopes_on Quiet e h i p env k = ap (λ x. option_map (λ (s : Seen). s.env) (seen_at x i p)) h ∙ k
+    scopes_on Aloud e h i p env k = absurd (cc)
 
 -- there a fault is no report
 pub quiet_told : (a b : Parts) (at : Span) (kind : FaultKind) (message : List ℕ) → is_aloud a.telling ≡ false → Told a.telling (faults_of a) (faults_of b) at kind message → (sight b).reports ≡ (sight a).reports

@@ -5,7 +5,7 @@ use Rattle.level_unify.specs.Solutions.{Loose}
 use Rattle.type_nodes.specs.Links.{reading}
 use Rattle.signature_model.specs.Declarations.{parameters_from}
 use Rattle.type_model.specs.Types.{Path, Typ, occurs}
-use Rattle.type_model.specs.Types.{Typ as type, Typs as types}
+use Rattle.type_model.specs.Types.{Typ as type}
 use Rattle.type_model.specs.Substitutions.{apply, Subst}
 use Rattle.type_model.proofs.Applying.{or_cases}
 use Rattle.signature_model.specs.Matching.{used, IsKnown}
@@ -64,7 +64,7 @@ root_taken {F} {scope} {G} {a} {b} {C} {N} {arity} {root} {m} {t} n reached is_r
       told = [];
       reports = rest.reports ∙ sym (append-nil a.reports);
       counted = refl;
-      sound = λ r V c l. record { same = refl; holds = tt; tells = refl };
+      sound = λ r V c l. record { same = refl; holds = tt; tells = refl; sees = tt; starts = refl };
       follows = λ r V c l. refl;
       complete = λ named V c e h. inl (complete V c e);
       first = λ named k V c e h. inl (subst (λ cs. StartsWith [] (judgements c.kept cs)) (sym (take_none k)) (starts_none []));
@@ -125,7 +125,7 @@ root_taken {F} {scope} {G} {a} {b} {C} {N} {arity} {root} {m} {t} n reached is_r
       writes = written_next rest.written (λ r. opened.reached) refines;
       refines = refines;
       recorded = λ i k y e. rest.types i k ∙ e;
-      keeps = keeps_as rest.noted rest.types;
+      keeps = keeps_as rest.noted rest.scopes rest.types;
       written = λ y k e. rest.written y ∙ e;
       given = λ V ch h. given_right V ch letters G h;
       inside = λ h.

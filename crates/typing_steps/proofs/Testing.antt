@@ -24,6 +24,7 @@ use Rattle.typing_state.specs.Messages.{twice_text}
 use Rattle.typing_state.specs.Demands.{ArityIs}
 use Rattle.typing_conditions.specs.Sights.{Sight, Letters, Agrees}
 use Rattle.typing_conditions.specs.Frames.{Frame}
+use Rattle.typing_conditions.specs.Seeing.{IsSeen}
 use Rattle.typing_conditions.specs.Judging.{Judgement, judgements, Follows, FallsShort, Meets, kind_of}
 use Rattle.typing_conditions.specs.Steps.{OnlyReports, Tells}
 use Rattle.typing_conditions.specs.Carrying.{Asks, Scope, HoldsWritten, IsUnder, Enters, ReadsOff, Carried}
@@ -50,7 +51,7 @@ carried_here {F} {scope} {asks} {others} {a} {b} {G} {H} e p = record {
   told = p.told;
   reports = p.reports;
   counted = p.counted;
-  sound = λ r V c l. subst (λ cs. Meets c.kept cs p.judged p.told) (at_end p.judged V c l) (p.sound r V c l);
+  sound = λ r V c l. subst (λ cs. Meets (IsSeen l.scopes l.types V) c.kept cs p.judged p.told) (at_end p.judged V c l) (p.sound r V c l);
   follows = λ r V c l. subst (λ cs. Follows c.kept cs p.judged) (at_end [] V c l) (p.follows r V c l);
   complete = λ named V c en h. elim (p.complete named V c en (subst (AllHold c.kept) (sym (at_start named V c en)) h)) [
     | inl goes ↦ inl (record { same = ap (judgements c.kept) (sym (at_start named V c en)) ∙ goes.same; types = goes.types; on = goes.on; hidden_too = goes.hidden_too })

@@ -38,6 +38,7 @@ variable_put a b {x} {n} w = record {
   ];
   types = λ i p. ap (λ k. (sight (record a { index = k })).types i p) w.index;
   noted = λ i p h. ap (λ k. (sight (record a { index = k })).noted i p) w.index ∙ h;
+  scopes = λ i p env h. ap (λ k. (sight (record a { index = k })).scopes i p) w.index ∙ h;
   reports = ap (λ f. (sight (record a { faults = f })).reports) w.faults;
   aloud = ap is_aloud w.telling;
   item = w.item;

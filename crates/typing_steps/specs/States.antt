@@ -62,6 +62,7 @@ sight at = record {
   nodes = at.store.nodes;
   types = λ i p. type_in (seen_at at.index i p);
   noted = λ i p. is_noted (seen_at at.index i p);
+  scopes = λ i p. option_map (λ (s : Seen). s.env) (seen_at at.index i p);
   written = written_in at.written;
   reports = reports_of (faults_of at);
   aloud = is_aloud at.telling;

@@ -34,9 +34,10 @@ use Rattle.typing_state.specs.Types.{level_for, JoinedIfNodes}
 use Rattle.typing_steps.specs.Demands.{TestedAs}
 use Rattle.typing_steps.specs.Typing.{path_as}
 use Rattle.record_steps.specs.Named.{labels_here, label_here}
-use Rattle.record_steps.specs.Recording.{IsLast, AsksOnce, label_written, GivesField, TakesRoot, TakesField, lost_of, found_here, TellsNone, TypesRecord, TypesNoRecord, AsksNothing}
+use Rattle.record_steps.specs.Recording.{IsLast, AsksOnce, label_written, GivesField, TakesRoot, TakesField, lost_of, found_here, TellsNone, TypesRecord, TypesNoRecord, NotesScope}
 use Rattle.record_steps.proofs.Named.{names_turned}
-use Rattle.record_steps.proofs.Noted.{untyped_told}
+use Rattle.typing_conditions.specs.Sights.{number_in}
+use Rattle.record_steps.proofs.Noted.{untyped_scope}
 use Rattle.record_steps.proofs.Fielded.{field_typed}
 use Rattle.record_steps.proofs.Typed.{record_label, record_known, record_in_hole, record_lost}
 use Rattle.use_typing.specs.declared.record_types.RecordType.{RecordType}
@@ -234,7 +235,7 @@ field_begins (Err e) found seen p a mid b asks gives = tt
 field_begins (Ok o) (record_type.Known d m) seen p a mid b asks gives = field_typed a mid b d.value m.0 seen p (option_map (λ (n : NodeRef). n.0) o) asks gives
 field_begins (Ok o) record_type.Open seen p a mid b asks gives = (gives.0, gives.1 ∙ asks)
 
--- a field that is recorded, with the names of its label
-pub field_noted : (r : Result Unit AllocError) (a b : Parts) (number : ℕ) (seen : Seen) → seen.ty ≡ None → OnOk r (Noted a.telling a b number seen) → OnlyIndex a b → OnOk r (AsksNothing a b)
+-- a field that is recorded, with the names of its label and those in scope
+pub field_noted : (r : Result Unit AllocError) (a b : Parts) (number : ℕ) (seen : Seen) → seen.ty ≡ None → OnOk r (Noted a.telling a b number seen) → OnlyIndex a b → OnOk r (NotesScope a b (number_in a.item number) seen.env)
 field_noted (Err e) a b number seen none noted rest = tt
-field_noted (Ok x) a b number seen none noted rest = untyped_told a b number seen none noted rest
+field_noted (Ok x) a b number seen none noted rest = untyped_scope a b (number_in a.item number) number seen none noted rest refl

@@ -501,7 +501,7 @@ exprs::type_under-returns-in_default-clause-carries t c = λ carried.
 pub exprs::type_under-returns-clause-carries : goal.exprs::type_under-returns-clause-carries
 exprs::type_under-returns-clause-carries t c =
     row_typed c.args.at.now c.typed_row.new.at c.note.new.self c.args.e c.in-Some.node (is_negated c.args.sign) c.args.env.now c.in_ok-used.used.ty
-    (record { env = c.args.env.now; ty = Some c.in_ok-used.used.ty; names = c.in_ok-used.used.names }) c.in-Some.is refl c.in_ok-used.ensures.carries c.typed_row.ensures.goes c.in_ok-note.ensures.noted c.note.ensures.rest
+    (record { env = c.args.env.now; ty = Some c.in_ok-used.used.ty; names = c.in_ok-used.used.names }) c.in-Some.is refl refl c.in_ok-used.ensures.carries c.typed_row.ensures.goes c.in_ok-note.ensures.noted c.note.ensures.rest
 
 pub apply::typed_argument-returns-clause-carries : goal.apply::typed_argument-returns-clause-carries
 apply::typed_argument-returns-clause-carries t c = λ carried.

@@ -1,28 +1,19 @@
-use Rattle.std.proofs.Common.{◌≡◌, ◌∙◌, Bool, true, List, [], ◌∷◌, refl, sym, ap, subst}
+use Rattle.std.proofs.Common.{◌≡◌, ◌∙◌, Bool, true, List, sym, ap, subst}
 use Rattle.std.proofs.Math.Path.{fun_ext}
-use Rattle.tree_model.specs.Rows.{Row, let_row, break_row}
-use Rattle.tree_model.specs.Trees.{Tree, node}
+use Rattle.tree_model.specs.Trees.{Tree}
 use Rattle.signature_model.specs.Entries.{Environment}
 use Rattle.typing_model.specs.Contexts.{Choice}
 use Rattle.typing_model.specs.Demands.{Site}
-use Rattle.typing_model.specs.Plain.{is_let_row, is_plain_row, has_lets_alone, has_no_modules}
+use Rattle.typing_model.specs.Plain.{has_lets_alone}
 use Rattle.typing_model.specs.Typings.{conditions_of, IsKept}
 use Rattle.fault_model.specs.Refused.{refused_of}
-use Rattle.typing_laws.proofs.Bools.{no_yes, and_cases, and_both}
+use Rattle.typing_laws.proofs.Bools.{no_yes}
 use Rattle.typing_laws.proofs.Decided.{are_one}
 use Rattle.typing_laws.proofs.QuietTexts.{no_closings}
 use Rattle.demand_laws.proofs.Texts.{refused_alike}
+use Rattle.shown_alike.proofs.Shown.{plain}
 use Rattle.prelude_checks.proofs.Ones.{firsts_one}
 use Rattle.prelude_checks.proofs.faults_of_lets_are_one.Goals as goal
-
-row_plain : (r : Row) → is_let_row r ≡ true → is_plain_row r ≡ true
-row_plain let_row e = refl
-row_plain break_row e = refl
-row_plain _ e = absurd (no_yes e)
-
-plain : (ts : List Tree) → has_lets_alone ts ≡ true → has_no_modules ts ≡ true
-plain [] e = refl
-plain (node r x ps ∷ ts) e = let (first, others) = and_cases (is_let_row r) (has_lets_alone ts) e in and_both (is_plain_row r) (has_no_modules ts) (row_plain r first) (plain ts others)
 
 -- from one environment, with the same demands kept
 one : (items : List Tree) (env : Environment) (kept others : Site → Bool) (ch choice : Choice) → has_lets_alone items ≡ true → IsKept env items kept → IsKept env items others → refused_of kept (conditions_of env items kept ch) ≡ refused_of others (conditions_of env items others choice)

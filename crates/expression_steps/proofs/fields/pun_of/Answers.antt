@@ -7,7 +7,7 @@ use Rattle.expression_steps.proofs.fields.pun_of.Goals as goal
 
 pub returns-clause-carries : goal.returns-clause-carries
 returns-clause-carries c =
-    pun_noted c.note.result c.args.at.now c.value_of_name.new.at c.note.new.self c.args.env.now c.args.number (number_of c.args.at.now.item c.args.number) (tok_of c.args.last.now) c.args.wanted (record { env = c.args.env.now; ty = None; names = c.in_ok-names.names }) refl (ap (λ i. number_of i c.args.number) c.value_of_name.ensures.goes.item) c.in_ok-used.ensures.carries c.note.ensures.noted c.note.ensures.rest
+    pun_noted c.note.result c.args.at.now c.value_of_name.new.at c.note.new.self c.args.env.now c.args.number (number_of c.args.at.now.item c.args.number) (tok_of c.args.last.now) c.args.wanted (record { env = c.args.env.now; ty = None; names = c.in_ok-names.names }) refl refl (ap (λ i. number_of i c.args.number) c.value_of_name.ensures.goes.item) c.in_ok-used.ensures.carries c.note.ensures.noted c.note.ensures.rest
 
 pub returns-clause-recorded : goal.returns-clause-recorded
 returns-clause-recorded c = c.note.ensures.recorded

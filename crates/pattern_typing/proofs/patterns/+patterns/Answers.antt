@@ -452,7 +452,7 @@ with_argument-returns t c =
       names = c.in_ok-match_wanted.ensures.names;
       goes = goes_trans c.args.at.now c.constructor.new.at c.note.new.self c.constructor.ensures.goes (goes_trans c.constructor.new.at c.match_wanted.new.at c.note.new.self c.match_wanted.ensures.goes c.note.ensures.goes);
       carries = λ carried. constructor_applied c.args.at.now c.constructor.new.at c.match_wanted.new.at c.note.new.self c.args.env.now c.args.number (path_as p) (pattern_of c.args.at.now.item o) found.known found.built wanted (record { env = c.args.env.now; ty = Some found.built; names = found.names })
-          (binds_of c.args.names.now.items) (binds_of c.match_wanted.new.names.items) (names_seen c.args.seen.now.items) (names_seen c.match_wanted.new.seen.items) refl c.in_ok-found.ensures.carries c.constructor.ensures.goes
+          (binds_of c.args.names.now.items) (binds_of c.match_wanted.new.names.items) (names_seen c.args.seen.now.items) (names_seen c.match_wanted.new.seen.items) refl refl c.in_ok-found.ensures.carries c.constructor.ensures.goes
           (subst (λ i. MatchesWanted c.constructor.new.at c.match_wanted.new.at c.args.env.now (pattern_of i o) (binds_of c.args.names.now.items) (binds_of c.match_wanted.new.names.items) (names_seen c.args.seen.now.items) (names_seen c.match_wanted.new.seen.items) wanted) c.constructor.ensures.goes.item
           (c.in_ok-match_wanted.ensures.carries carried))
           c.match_wanted.ensures.goes c.in_ok-note.ensures.noted c.note.ensures.rest;
@@ -508,7 +508,7 @@ match_written-returns t c =
     record {
       names = c.match_wanted.ensures.names;
       found = on_any c.match_wanted.result _ (ap here_of c.begin_field.ensures.found);
-      carries = written_done c.match_wanted.result c.args.at.now c.begin_field.new.at c.note_label.new.at c.match_wanted.new.at c.args.env.now c.args.begun.now.found (path_view c.in_ok-label.label) (path_at (operand_view c.args.field).part) (operand_view c.args.part) c.in_ok-wanted.wanted (binds_of c.args.names.now.items) (binds_of c.match_wanted.new.names.items) (names_seen c.args.seen.now.items) (names_seen c.match_wanted.new.seen.items) c.args.begun.now.labels.items c.begin_field.new.fields.labels.items
+      carries = written_done c.match_wanted.result c.args.at.now c.begin_field.new.at c.note_label.new.at c.match_wanted.new.at c.args.env.now c.args.field.number c.args.begun.now.found (path_view c.in_ok-label.label) (path_at (operand_view c.args.field).part) (operand_view c.args.part) c.in_ok-wanted.wanted (binds_of c.args.names.now.items) (binds_of c.match_wanted.new.names.items) (names_seen c.args.seen.now.items) (names_seen c.match_wanted.new.seen.items) c.args.begun.now.labels.items c.begin_field.new.fields.labels.items
           c.in_ok-label.ensures c.in_ok-wanted.ensures.carries c.begin_field.ensures.goes c.in_ok-note_label.ensures.carries c.note_label.ensures.goes c.in_ok-wanted.ensures.seen c.match_wanted.ensures.carries;
       goes = goes_trans c.args.at.now c.begin_field.new.at c.match_wanted.new.at c.begin_field.ensures.goes (goes_trans c.begin_field.new.at c.note_label.new.at c.match_wanted.new.at c.note_label.ensures.goes c.match_wanted.ensures.goes);
     }

@@ -21,7 +21,7 @@ returns-clause-tells c =
 pub returns-clause-binds : goal.returns-clause-binds
 returns-clause-binds c =
     let bound = c.in_ok-bound.bound in
-    on_ok c.push.result _ (BindsName c.args.at.now c.note.new.self c.args.number (tok_of c.args.token.now) c.args.ty (binds_of c.args.names.now.items) (binds_of c.push.new.list.items) (names_seen c.args.seen.now.items) (names_seen c.is_new.new.seen.items)) (λ pushed. record {
+    on_ok c.push.result _ (BindsName c.args.at.now c.note.new.self c.args.env.now c.args.number (tok_of c.args.token.now) c.args.ty (binds_of c.args.names.now.items) (binds_of c.push.new.list.items) (names_seen c.args.seen.now.items) (names_seen c.is_new.new.seen.items)) (λ pushed. record {
       between = c.is_new.new.at;
       entry = bound.entry.value;
       recorded = record { env = c.args.env.now; ty = Some c.args.ty; names = c.in_ok-seen_names.seen_names };
@@ -29,6 +29,7 @@ returns-clause-binds c =
       goes = c.is_new.ensures.goes;
       is_entry = c.in_ok-bound.ensures.entry;
       has_type = refl;
+      in_scope = refl;
       noted = c.in_ok-note.ensures.noted;
       rest = c.note.ensures.rest;
       adds = record {

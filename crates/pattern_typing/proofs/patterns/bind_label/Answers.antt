@@ -13,7 +13,7 @@ use Rattle.pattern_typing.proofs.patterns.bind_label.Goals as goal
 pub returns-clause-binds : goal.returns-clause-binds
 returns-clause-binds c =
     let bound = c.in_ok-bound.bound in
-    on_ok c.push.result _ (BindsLabel c.args.at.now c.note.new.self (number_of c.args.at.now.item c.args.number) (tok_of c.args.token.now) c.args.ty (binds_of c.args.names.now.items) (binds_of c.push.new.list.items) (names_seen c.args.seen.now.items) (names_seen c.is_new.new.seen.items)) (λ pushed. record {
+    on_ok c.push.result _ (BindsLabel c.args.at.now c.note.new.self c.args.env.now (number_of c.args.at.now.item c.args.number) (tok_of c.args.token.now) c.args.ty (binds_of c.args.names.now.items) (binds_of c.push.new.list.items) (names_seen c.args.seen.now.items) (names_seen c.is_new.new.seen.items)) (λ pushed. record {
       between = c.is_new.new.at;
       entry = bound.entry.value;
       fresh = c.in_ok-is_new.ensures.fresh;

@@ -20,7 +20,7 @@ pub returns-clause-carries : goal.returns-clause-carries
 returns-clause-carries c = λ names seen.
     let found = c.in_ok-found.found in
     let argument = option_map (λ (m : NodeRef). m.0) found.argument in
-    con_matches c.args.at.now c.constructor.new.at c.note.new.self c.args.env.now c.args.number (node_view c.args.node.now) found.built found.known argument (record { env = c.args.env.now; ty = Some found.built; names = found.names }) names seen refl
+    con_matches c.args.at.now c.constructor.new.at c.note.new.self c.args.env.now c.args.number (node_view c.args.node.now) found.built found.known argument (record { env = c.args.env.now; ty = Some found.built; names = found.names }) names seen refl refl
     (subst (λ p. TypesConstructor c.args.at.now c.constructor.new.at c.args.env.now (path_of p) 0 found.known found.built.0 argument) c.in_ok-path.ensures c.in_ok-found.ensures.carries) c.constructor.ensures.goes c.in_ok-note.ensures.noted c.note.ensures.rest
 
 pub returns-clause-goes : goal.returns-clause-goes

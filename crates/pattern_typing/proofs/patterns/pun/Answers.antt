@@ -10,7 +10,7 @@ use Rattle.pattern_typing.proofs.patterns.pun.Goals as goal
 
 pub returns-clause-carries : goal.returns-clause-carries
 returns-clause-carries c =
-    punned_done c.pun_of.result c.args.at.now c.begin_field.new.at c.pun_of.new.at c.args.field.number c.args.begun.now.found (path_view c.in_ok-label.label) (path_at (operand_view c.args.field).part) c.in_ok-wanted.wanted (binds_of c.args.names.now.items) (binds_of c.pun_of.new.names.items) (names_seen c.args.seen.now.items) (names_seen c.pun_of.new.seen.items) c.args.begun.now.labels.items c.begin_field.new.fields.labels.items
+    punned_done c.pun_of.result c.args.at.now c.begin_field.new.at c.pun_of.new.at c.args.env.now c.args.field.number c.args.begun.now.found (path_view c.in_ok-label.label) (path_at (operand_view c.args.field).part) c.in_ok-wanted.wanted (binds_of c.args.names.now.items) (binds_of c.pun_of.new.names.items) (names_seen c.args.seen.now.items) (names_seen c.pun_of.new.seen.items) c.args.begun.now.labels.items c.begin_field.new.fields.labels.items
     c.in_ok-label.ensures c.in_ok-wanted.ensures.carries c.begin_field.ensures.goes c.in_ok-wanted.ensures.seen c.pun_of.ensures.puns
 
 pub returns-clause-found : goal.returns-clause-found

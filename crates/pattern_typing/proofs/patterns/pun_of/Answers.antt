@@ -18,13 +18,13 @@ returns-in_ok-ty-in-Some-clause-puns c =
     let ys = binds_of c.bind_label.new.names.items in
     let before = names_seen c.args.seen.now.items in
     let after = names_seen c.bind_label.new.seen.items in
-    subst (λ o. OnOk c.bind_label.result (Puns (option_map (λ t. tok_of t.now) o) c.args.at.now c.bind_label.new.at k wanted xs ys before after)) (sym c.in-Some.is)
-    (on_ok c.bind_label.result _ (Puns (Some (tok_of c.in-Some.token.now)) c.args.at.now c.bind_label.new.at k wanted xs ys before after) (λ bound. record {
+    subst (λ o. OnOk c.bind_label.result (Puns (option_map (λ t. tok_of t.now) o) c.args.at.now c.bind_label.new.at c.args.env.now k wanted xs ys before after)) (sym c.in-Some.is)
+    (on_ok c.bind_label.result _ (Puns (Some (tok_of c.in-Some.token.now)) c.args.at.now c.bind_label.new.at c.args.env.now k wanted xs ys before after) (λ bound. record {
       mid = c.type_or_var.new.at;
       ty = c.in_ok-ty-in-Some.ty;
       given = gives_type c.args.wanted c.args.at.now c.type_or_var.new.at c.in_ok-ty-in-Some.ty c.in_ok-ty-in-Some.ensures.ty c.in_ok-ty-in-Some.ensures.carries;
       goes = c.type_or_var.ensures.goes;
-      binds = subst (λ i. BindsLabel c.type_or_var.new.at c.bind_label.new.at (number_of i c.args.number) (tok_of c.in-Some.token.now) c.in_ok-ty-in-Some.ty xs ys before after) c.type_or_var.ensures.goes.item bound;
+      binds = subst (λ i. BindsLabel c.type_or_var.new.at c.bind_label.new.at c.args.env.now (number_of i c.args.number) (tok_of c.in-Some.token.now) c.in_ok-ty-in-Some.ty xs ys before after) c.type_or_var.ensures.goes.item bound;
     }) c.bind_label.ensures.binds)
 
 pub returns-in-None-clause-puns : goal.returns-in-None-clause-puns
@@ -33,8 +33,8 @@ returns-in-None-clause-puns c =
     let xs = binds_of c.args.names.now.items in
     let k = number_of c.args.at.now.item c.args.number in
     let before = names_seen c.args.seen.now.items in
-    subst (λ o. OnOk c.note_label.result (Puns (option_map (λ t. tok_of t.now) o) c.args.at.now c.note_label.new.at k wanted xs xs before before)) (sym c.in-None.is)
-    (on_ok c.note_label.result _ (Puns None c.args.at.now c.note_label.new.at k wanted xs xs before before) (λ noted. (noted, refl, refl)) c.note_label.ensures.carries)
+    subst (λ o. OnOk c.note_label.result (Puns (option_map (λ t. tok_of t.now) o) c.args.at.now c.note_label.new.at c.args.env.now k wanted xs xs before before)) (sym c.in-None.is)
+    (on_ok c.note_label.result _ (Puns None c.args.at.now c.note_label.new.at c.args.env.now k wanted xs xs before before) (λ noted. (noted, refl, refl)) c.note_label.ensures.carries)
 
 pub returns-in-None-clause-goes : goal.returns-in-None-clause-goes
 returns-in-None-clause-goes c = c.note_label.ensures.goes

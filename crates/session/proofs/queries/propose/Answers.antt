@@ -21,7 +21,7 @@ returns-in-Locate-clause-answers g c =
     let items = trees_of c.args.parsed.now.tree in
     subst (λ (q : Query). IfOk c.said.result (λ p. (s : said.Said) → IsSaidOf text p s → AnswersQuery q text c.args.offset items s)) (sym c.in-Locate.is)
     (alone_answers (LocatedBy text c.args.offset items) text c.located.result c.said.result c.said.ensures
-    (subst (λ (t : Tree). IfOk c.located.result (λ r. LocatedBy text c.args.offset (trees_of t) (said_of r))) c.asked-asked.ensures c.located.ensures))
+    (subst (λ (t : Tree). IfOk c.located.result (λ r. LocatedBy text c.args.offset (trees_of t) (said_of r))) c.asked-asked.ensures.tree c.located.ensures))
 
 pub returns-in-Occurrences-clause-answers : goal.returns-in-Occurrences-clause-answers
 returns-in-Occurrences-clause-answers g c =
@@ -29,7 +29,7 @@ returns-in-Occurrences-clause-answers g c =
     let items = trees_of c.args.parsed.now.tree in
     subst (λ (q : Query). IfOk c.said-in-Occurrences.result (λ p. (s : said.Said) → IsSaidOf text p s → AnswersQuery q text c.args.offset items s)) (sym c.in-Occurrences.is)
     (alone_answers (UsedBy text c.args.offset items) text c.used.result c.said-in-Occurrences.result c.said-in-Occurrences.ensures
-    (subst (λ (t : Tree). IfOk c.used.result (λ r. UsedBy text c.args.offset (trees_of t) (said_of r))) c.asked-asked.ensures c.used.ensures))
+    (subst (λ (t : Tree). IfOk c.used.result (λ r. UsedBy text c.args.offset (trees_of t) (said_of r))) c.asked-asked.ensures.tree c.used.ensures))
 
 pub returns-in-Complete-clause-answers : goal.returns-in-Complete-clause-answers
 returns-in-Complete-clause-answers g c =

@@ -65,7 +65,7 @@ read_each-returns-clause-carries t c = λ item operands.
 
 pub read_type-returns-clause-carries : goal.read_type-returns-clause-carries
 read_type-returns-clause-carries t c = λ item.
-    operand_reads c.args.at.now c.read_row.new.at c.note.new.self c.args.env.now c.args.ty c.in_ok-read.read.ty.0 (record { env = c.args.env.now; ty = None; names = c.in_ok-read.read.names }) c.read_row.ensures.goes (c.in_ok-read.ensures.carries item) refl c.in_ok-note.ensures.noted c.note.ensures.rest
+    operand_reads c.args.at.now c.read_row.new.at c.note.new.self c.args.env.now c.args.ty c.in_ok-read.read.ty.0 (record { env = c.args.env.now; ty = None; names = c.in_ok-read.read.names }) c.read_row.ensures.goes (c.in_ok-read.ensures.carries item) refl refl c.in_ok-note.ensures.noted c.note.ensures.rest
 
 pub read_row-returns-in_ok-any-in-None-clause-carries : goal.read_row-returns-in_ok-any-in-None-clause-carries
 read_row-returns-in_ok-any-in-None-clause-carries t c = λ item.

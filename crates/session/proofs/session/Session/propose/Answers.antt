@@ -1,15 +1,18 @@
-use Rattle.std.proofs.Common.{subst, sym, List, ℕ, IfOk, ap}
+use Rattle.std.proofs.Common.{subst, sym, List, ℕ, IfOk, ap, map}
 use Rattle.tree_model.specs.Trees.{Tree}
 use Rattle.service_model.specs.Replies as said
+use Rattle.service_model.specs.Structure.{TyperFaults}
 use Rattle.syntax_tree.specs.View.{trees_of}
 use Rattle.frame_parser.specs.declared.whole.Parsed.{Parsed}
+use Rattle.text_queries.specs.Faults.{typer_fault_of}
 use Rattle.text_reading.specs.Structures.{IsParsedAs}
-use Rattle.text_reading.specs.Types.{IsOf}
+use Rattle.text_reading.specs.Types.{items_in, IsOf}
 use Rattle.text_reading.proofs.Knowing.{items_parsed}
 use Rattle.session.specs.Changes.{FitsText, IsSaidOf}
 use Rattle.session.specs.Queries.{AnswersQuery}
 use Rattle.session.specs.Working.{Held}
 use Rattle.session.proofs.Proposing.{items_answer, may_try}
+use Rattle.session.proofs.Typing.{typer_found}
 use Rattle.session.proofs.session.Session.propose.Goals as goal
 
 pub typed-requires : goal.typed-requires
@@ -26,6 +29,8 @@ propose-requires g c =
     let here = subst (λ (t : List ℕ). IsParsedAs t parsed) (ap (λ (h : Held). h.text) c.self.view_is) are in
     record {
       parsed = subst (λ (t : List ℕ). IsParsedAs t parsed) (sym c.text.ensures) here;
+      typed = subst (λ (t : List ℕ). TyperFaults t (map typer_fault_of c.analysis-analysis.result.faults.now.list.items)) (sym c.text.ensures)
+          (typer_found c.args.self.now.text parsed (items_in g.A.Analyser.items c.in_ok-found.found) c.analysis-analysis.result.faults.now.list.items here c.in_ok-found.ensures.items c.analysis-analysis.ensures.silent c.analysis-analysis.ensures.refused);
       found = subst (λ (ts : List Tree). IsOf g.A.Analyser.items g.A.Analyser.finds ts c.analysis-analysis.result) c.in_ok-found.ensures.items c.analysis-analysis.ensures.found;
     }
 

@@ -5,6 +5,7 @@ use Rattle.text_analysis.specs.Items.{views_of}
 use Rattle.text_analysis.proofs.PointLaws.{points_fronts}
 use Rattle.text_analysis.proofs.Refused.{items_refused}
 use Rattle.text_analysis.proofs.Silent.{items_silent}
+use Rattle.text_analysis.proofs.TypedNodes.{items_typed}
 use Rattle.prelude_checks.proofs.Prelude.{first_names, is_first}
 use Rattle.text_analysis.proofs.kept.TyperAnalyser.found.Goals as goal
 
@@ -37,3 +38,6 @@ returns-clause-silent c = λ typable. ∥∥₁_elim c.args.self.now.known (Bool
 
 pub returns-clause-refused : goal.returns-clause-refused
 returns-clause-refused c = λ lets. ∥∥₁_map c.args.self.now.known (λ k. items_refused k.3.ends.given k.2 c.len-nodes.ensures.plain first_names is_first lets)
+
+pub returns-clause-typed : goal.returns-clause-typed
+returns-clause-typed c = λ lets. ∥∥₁_map c.args.self.now.known (λ k. items_typed k.3.ends.given k.2 c.len-nodes.ensures.plain first_names is_first lets _ refl refl)

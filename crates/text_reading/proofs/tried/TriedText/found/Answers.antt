@@ -1,6 +1,12 @@
-use Rattle.std.proofs.Common.{List, ℕ, ◌∙◌, ap, sym, subst}
+use Rattle.std.proofs.Common.{◌≡◌, List, ℕ, ◌∙◌, ap, map, sym, subst, true}
+use Rattle.tree_model.specs.Trees.{Tree}
+use Rattle.typing_model.specs.Typable.{AreTypable}
+use Rattle.fault_model.specs.Refused.{standing, AreOfLets, AreRefused}
 use Rattle.token_store.specs.Stored.{toks_of}
 use Rattle.kept_text.specs.Keeping.{trees_in}
+use Rattle.analysis_api.specs.Types.{AreTyped}
+use Rattle.analysis_api.specs.Faults.{typer_fault_of}
+use Rattle.analysis_api.specs.Warnings.{are_warnings}
 use Rattle.text_reading.specs.Structures.{IsParsedAs}
 use Rattle.text_reading.specs.Trials.{Tried}
 use Rattle.text_reading.specs.Types.{known}
@@ -20,3 +26,21 @@ returns-clause-found g c =
     let typer = c.in-Some-Some.typer.now in
     let holds = bound_items (g.A.Analyser.items typer) (trees_in c.self.inside.kept.tokens) (known g.A.Analyser.items c.self.inside.types) c.in-Some-Some.ensures' c.self.invariant.are in
     (typer, holds ∙ sym c.in-Some-Some.ensures.tree, c.found.ensures.found)
+
+pub returns-clause-silent : goal.returns-clause-silent
+returns-clause-silent g c =
+    let typer = c.in-Some-Some.typer.now in
+    let holds = bound_items (g.A.Analyser.items typer) (trees_in c.self.inside.kept.tokens) (known g.A.Analyser.items c.self.inside.types) c.in-Some-Some.ensures' c.self.invariant.are in
+    subst (λ (ts : List Tree). AreTypable ts → are_warnings c.found.result.faults.now.list.items ≡ true) (holds ∙ sym c.in-Some-Some.ensures.tree) c.found.ensures.silent
+
+pub returns-clause-refused : goal.returns-clause-refused
+returns-clause-refused g c =
+    let typer = c.in-Some-Some.typer.now in
+    let holds = bound_items (g.A.Analyser.items typer) (trees_in c.self.inside.kept.tokens) (known g.A.Analyser.items c.self.inside.types) c.in-Some-Some.ensures' c.self.invariant.are in
+    subst (λ (ts : List Tree). AreOfLets ts → ∥ AreRefused ts (standing (map typer_fault_of c.found.result.faults.now.list.items)) ∥₁) (holds ∙ sym c.in-Some-Some.ensures.tree) c.found.ensures.refused
+
+pub returns-clause-typed : goal.returns-clause-typed
+returns-clause-typed g c =
+    let typer = c.in-Some-Some.typer.now in
+    let holds = bound_items (g.A.Analyser.items typer) (trees_in c.self.inside.kept.tokens) (known g.A.Analyser.items c.self.inside.types) c.in-Some-Some.ensures' c.self.invariant.are in
+    subst (λ (ts : List Tree). AreOfLets ts → ∥ AreTyped ts c.found.result ∥₁) (holds ∙ sym c.in-Some-Some.ensures.tree) c.found.ensures.typed

@@ -1,0 +1,10 @@
+pub mod Naming
+pub mod Shown
+pub mod Scoped
+pub mod Ascii
+pub mod Printing
+pub mod Declared
+pub mod Over
+pub mod One
+pub mod Texts
+pub mod Declarations

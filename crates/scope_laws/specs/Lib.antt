@@ -1,0 +1,2 @@
+-- The sorts of the parts of each row.
+pub mod Sorts

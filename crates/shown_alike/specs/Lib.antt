@@ -1,0 +1,2 @@
+-- The nodes of a text of which one text is shown.
+pub mod Settled
