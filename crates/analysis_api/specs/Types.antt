@@ -1,20 +1,21 @@
 -- What an analysis has recorded for the nodes of items, against a typing of the definitions.
-use Rattle.std.specs.Prelude.{◌≡◌, ◌<◌, ℕ, ◌+◌, ◌*◌, ◌^◌, List, length, option_map, Some}
+use Rattle.std.specs.Prelude.{◌≡◌, ◌<◌, true, ℕ, ◌+◌, ◌*◌, ◌^◌, List, length, option_map, Some}
 use Rattle.tree_model.specs.Trees.{Tree}
 use Rattle.type_model.specs.Types.{Path, Typ}
 use Rattle.signature_model.specs.Declarations.{Name}
 use Rattle.signature_model.specs.Entries.{Environment}
-use Rattle.type_print_model.specs.Paths as model
 use Rattle.type_print_model.specs.Paths.{IsNameOf}
-use Rattle.typed_model.specs.Shown.{IsToldTyped, IsTypingOf, IsOfDeclarations, asked}
+use Rattle.type_print_model.specs.Printing.{mentions}
+use Rattle.typed_model.specs.Shown.{IsToldTyped, IsTypingOf, IsCalled, asked}
 use Rattle.type_terms.specs.declared.types.NodeRef.{NodeRef}
 use Rattle.env_table.specs.declared.seen.Seen.{Seen}
 use Rattle.typed_index.specs.Seen.{seen_at}
 use Rattle.type_print.specs.Paths.{naming}
 use Rattle.type_print.specs.Shown.{shown}
+use Rattle.type_print.specs.Texts.{IsAscii}
 use Rattle.analysis_api.specs.declared.Analysis.{Analysis}
 
--- For a node of this number a type is recorded, which its node in the store shows where its constructors have the paths of declarations, and names in scope, by which each type has a name that it has in the environment.
+-- For a node of this number a type is recorded, which its node in the store shows, and names in scope, by which each constructor in it has a name of one byte a character that a path of the environment gives it.
 pub record HasType (x : Analysis) (n : ℕ) (E : Environment) (t : Typ) : Type 0 where
   pub item : ℕ
   pub place : ℕ
@@ -24,8 +25,8 @@ pub record HasType (x : Analysis) (n : ℕ) (E : Environment) (t : Typ) : Type 0
   pub node : ℕ
   pub typed : option_map (λ (m : NodeRef). m.0) seen.ty ≡ Some node
   pub inside : node < length x.store.now.nodes
-  pub shows : IsOfDeclarations t → shown x.store.now.nodes node ≡ t
-  pub names : (declared : Path → Name) (o : Path) (s : List ℕ) → IsNameOf naming seen.env declared o s → IsNameOf model.naming E declared o s
+  pub shows : shown x.store.now.nodes node ≡ t
+  pub called : (declared : Path → Name) (o : Path) (s : List ℕ) → mentions o t ≡ true → IsNameOf naming seen.env declared o s → IsCalled E o s × IsAscii s
 
 -- What is recorded for items is a typing of them: for each node that is told with its type.
 pub record AreTyped (items : List Tree) (x : Analysis) : Type 0 where

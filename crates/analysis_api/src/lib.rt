@@ -9,7 +9,7 @@ ghost use Rattle.std.specs.Prelude.{◌≡◌, ℕ, List, [], ◌+◌, ◌-◌, 
 ghost use Rattle.token_model.specs.Kinds.{Tok};
 ghost use Rattle.token_model.specs.Tokens.{Lex};
 ghost use Rattle.typing_model.specs.Typable.{AreTypable};
-ghost use Rattle.fault_model.specs.Refused.{standing, AreOfLets, AreRefused};
+ghost use Rattle.fault_model.specs.Refused.{standing, AreOfValues, AreRefused};
 ghost use Rattle.syntax_tree.specs.Tallies.{Grows};
 ghost use Rattle.syntax_tree.specs.View.{trees_of};
 ghost use Rattle.analysis_api.specs.Typed.{more_typed, GoesOn, LongestFront, SameFront};
@@ -84,8 +84,8 @@ pub trait Analyser: Drop {
     fn found(&self) -> Analysis<'_>
         ensures found { finds self.now result }
         ensures silent { AreTypable (items self.now) → are_warnings result.faults.now.list.items ≡ true }
-        ensures refused { AreOfLets (items self.now) → ∥ AreRefused (items self.now) (standing (map typer_fault_of result.faults.now.list.items)) ∥₁ }
-        ensures typed { AreOfLets (items self.now) → ∥ AreTyped (items self.now) result ∥₁ };
+        ensures refused { AreOfValues (items self.now) → ∥ AreRefused (items self.now) (standing (map typer_fault_of result.faults.now.list.items)) ∥₁ }
+        ensures typed { AreOfValues (items self.now) → ∥ AreTyped (items self.now) result ∥₁ };
 
     /// The text of the prelude, whose names every text has at hand; its lines are counted from 1.
     fn prelude() -> &'static str

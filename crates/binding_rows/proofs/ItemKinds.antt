@@ -29,7 +29,7 @@ use Rattle.typing_steps.proofs.Recording.{noted_scope}
 use Rattle.typing_steps.proofs.Still.{plain_notes, notes_unseen, notes_untold}
 use Rattle.typing_rows.specs.Noted.{AreNoted}
 use Rattle.binding_rows.specs.Outside.{Outside, OnlyBetween}
-use Rattle.binding_rows.specs.ItemRows.{IsItemNode, IsExceptionNode, recorded_let, recorded_exception, recorded_idle, ItemDone, ItemsDone, GivesLet, GivesException, item_if, item_at}
+use Rattle.binding_rows.specs.ItemRows.{IsItemNode, IsExceptionNode, recorded_let, recorded_exception, recorded_idle, ItemDone, ItemsDone, GivesLet, item_if, item_at}
 use Rattle.binding_rows.proofs.ItemOrders.{idle_done, done_one}
 use Rattle.binding_rows.proofs.ItemRows.{item_term}
 
@@ -89,12 +89,6 @@ pub idle_given : {K : Type 0} (a b : Parts) (env : List Entry) (n : ℕ) (place 
     ItemsDone as_declared K E (item_at a.item (numbered n place (inner t))) seen seen a b G env
 idle_given {K} a b env n place t G E seen row here only outside constants noted known =
     subst (λ ms. ItemsDone as_declared K E ms seen seen a b G env) (sym (idle_there a.item n place t row)) (idle_one seen (idle_done (number_of a.item n) a.item n refl here seen only outside constants noted known))
-
--- And so is an exception.
-pub exception_done : (a b : Parts) (env after : List Entry) (n : ℕ) (place : Place) (t : Tree) (G : Letters) (E : Choice → Environment) (seen : Seen) → IsExceptionNode n t → is_aloud a.telling ≡ true → (at : Outside as_declared (sight a) G env E) → HasConstants a → AreNoted at.older a → GivesException a b env after n t →
-    ItemsDone as_declared ⊥ E (item_at a.item (numbered n place (inner t))) seen seen a b G after
-exception_done a b env after n place t G E seen item aloud outside constants noted gives =
-    subst (λ ms. ItemsDone as_declared ⊥ E ms seen seen a b G after) (sym (exception_there a.item n place t item)) (idle_one seen (gives G E seen item aloud outside constants noted))
 
 -- Where faults are reported the names in scope are recorded for a node without a type.
 pub plain_scope : (a b : Parts) (number : ℕ) (env : List Entry) → is_aloud a.telling ≡ true → NotedNameless a b number env None → (sight b).scopes a.item number ≡ Some env

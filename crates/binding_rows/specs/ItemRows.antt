@@ -68,12 +68,13 @@ recorded_idle n = let i = no_item n in record i { asks = λ c seen. tell n c ++ 
 abbrev pub recorded_exception : (i n k : ℕ) → Tree → Item
 recorded_exception i n k t = let m = exception_item (number_of i n) (Some (constructor_row (number_of i k) (parts_of i k t))) in record m { asks = λ c seen. tell (number_of i n) c ++ m.asks c seen }
 
--- the first component of an item is no value, or a value with no variable but those that its scheme binds, as one that is specified
+-- the first component of an item is no value and no exception without an argument, or it is a value with no variable but those that its scheme binds, as one that is specified
 abbrev pub AreDeclared : Components → Type 0
 AreDeclared Done = ⊥
 AreDeclared (Component n at (Value s) cs) = (v : ℕ) → s.bound v ≡ true
 AreDeclared (Component n at (TypeName d) cs) = Unit {0}
-AreDeclared (Component n at (Exception o) cs) = Unit {0}
+AreDeclared (Component n at (Exception None) cs) = ⊥
+AreDeclared (Component n at (Exception (Some t)) cs) = Unit {0}
 AreDeclared (Component n at (Module s) cs) = Unit {0}
 AreDeclared (Component n at (ModuleType made s) cs) = Unit {0}
 
@@ -138,12 +139,6 @@ pub record IsExceptionNode (n : ℕ) (t : Tree) : Type 0 where
   pub is : row_of constructor ≡ con_row
   pub name : Tok
   pub named : token_in constructor 0 ≡ Some name
-
--- What a call gives for an item that declares an exception, by its node, in the same way.
-abbrev pub GivesException : (a b : Parts) → (env after : List Entry) → (n : ℕ) → Tree → Type 0
-GivesException a b env after n t =
-    (G : Letters) (E : Choice → Environment) (seen : Seen) (x : IsExceptionNode n t) → is_aloud a.telling ≡ true → (at : Outside as_declared (sight a) G env E) → HasConstants a → AreNoted at.older a →
-    ItemDone as_declared ⊥ E (recorded_exception a.item n x.operand.number x.constructor) seen no_names a b G after
 
 -- an item whose conditions are carried: a `let` of which bindings are, `;;`, or an exception that has a name
 abbrev pub IsCarriedItem : ℕ → Tree → Type 0

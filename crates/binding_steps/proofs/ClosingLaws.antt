@@ -1,10 +1,14 @@
 -- Closing a group of bindings, name by name and binding by binding.
-use Rattle.std.proofs.Common.{◌≡◌, ◌∙◌, ◌++◌, ◌+◌, ◌-◌, ◌<◌, ℕ, Bool, true, false, if◌then◌else◌, List, [], ◌∷◌, length, map, drop, refl, sym, ap, subst, append_assoc, append-nil, length-append, arith}
+use Rattle.std.proofs.Common.{◌≡◌, ◌∙◌, ◌++◌, ◌+◌, ◌-◌, ◌<◌, ℕ, Bool, true, false, if◌then◌else◌, List, [], ◌∷◌, length, map, drop, reverse, refl, sym, ap, subst, append_assoc, append-nil, length-append, arith}
 use Rattle.std.specs.Prelude.{slice_index_or}
+use Rattle.std.proofs.lemmas.List.{map-append, reverse-append}
+use Rattle.std.specs.declared.rc.Rc.{Rc}
+use Rattle.std.specs.declared.alloc.Global.{Global}
 use Rattle.type_nodes.specs.Nodes.{Node, Var, IsNode, IsSound, bound_level}
 use Rattle.type_nodes.specs.States.{State}
 use Rattle.type_nodes.specs.Changes.{Makes}
 use Rattle.env_table.specs.declared.entries.Entry.{Entry}
+use Rattle.env_table.specs.Views.{newest_first}
 use Rattle.typing_state.specs.declared.parts.Parts.{Parts}
 use Rattle.typing_state.specs.Goes.{Goes, OnlyStore}
 use Rattle.typing_state.specs.Types.{level_for, MadeOne}
@@ -12,6 +16,7 @@ use Rattle.typing_state.proofs.Going.{goes_refl, with_store}
 use Rattle.use_typing.proofs.Reading.{drop_read, rest_read}
 use Rattle.pattern_typing.specs.declared.patterns.BoundName.{BoundName}
 use Rattle.pattern_typing.specs.Matching.{binds_of}
+use Rattle.pattern_rows.specs.Bounds.{Bind}
 use Rattle.binding_rows.specs.CaseScopes.{names_added}
 use Rattle.binding_rows.proofs.Scopes.{names_both}
 use Rattle.binding_rows.specs.Closing.{Limit, LimitsNodes, GeneralisesAll}
@@ -163,3 +168,12 @@ inside_made a b mid n m level scope highest makes node one rest goes sound =
     let same : Makes a.store mid n (Var (level_for bound_level) scope) = subst (λ k. Makes a.store mid n (Var k scope)) highest makes in
     inside_one (mid, n, same, one (made_node a.store mid n (Var level scope) makes) node)
     (record { index = rest.index; faults = rest.faults; written = rest.written; item = rest.item; level = rest.level; telling = rest.telling; constants = rest.constants }) goes sound
+
+-- an entry more, the newest
+pub newest_more : (es fs : List (Rc Entry Global)) (r : Rc Entry Global) → fs ≡ es ++ r ∷ [] → newest_first fs ≡ r.value ∷ newest_first es
+newest_more es fs r grown = ap newest_first grown ∙ ap reverse (map-append (λ (x : Rc Entry Global). x.value) es (r ∷ [])) ∙ reverse-append (map (λ (x : Rc Entry Global). x.value) es) (r.value ∷ [])
+
+-- names are added in front of those before, whatever is after these
+pub names_in_front : (ys : List Bind) (xs env : List Entry) → names_added ys (xs ++ env) ≡ names_added ys xs ++ env
+names_in_front [] xs env = refl
+names_in_front (y ∷ ys) xs env = names_in_front ys (y.entry ∷ xs) env

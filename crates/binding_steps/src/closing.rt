@@ -1,11 +1,13 @@
 //! The end of a group: what is held, the origins that an item allows, and the generalised types of its names.
 #![tactic(auto, using(typing_state::proofs::Going::goes_trans, typing_state::proofs::Going::goes_refl, typing_state::proofs::Silence::store_silent, typing_state::proofs::Silence::silent_refl, typing_state::proofs::Silence::silent_trans))]
 
-ghost use Rattle.std.specs.Prelude.{◌≡◌, ◌⊎◌, ◌+◌, ◌-◌, ◌^◌, ◌<◌, ℕ, [], ◌∷◌, map, IfOk, OnOk, OnErr};
+ghost use Rattle.std.specs.Prelude.{◌≡◌, ◌⊎◌, ◌+◌, ◌-◌, ◌^◌, ◌<◌, ℕ, [], ◌∷◌, ◌++◌, map, IfOk, OnOk, OnErr};
 ghost use Rattle.type_nodes.specs.Nodes.{Var, bound_level};
 ghost use Rattle.type_nodes.specs.Changes.{Makes};
+ghost use Rattle.env_table.specs.Views.{newest_first};
 ghost use Rattle.typing_state.specs.Goes.{Goes, Silent};
 ghost use Rattle.typing_state.specs.Types.{level_for};
+ghost use Rattle.pattern_typing.specs.Matching.{binds_of};
 ghost use Rattle.binding_rows.specs.CaseScopes.{names_added};
 ghost use Rattle.binding_rows.specs.Closing.{GeneralisesAll, LimitsNodes};
 ghost use Rattle.binding_rows.specs.Lets.{bind_nodes, limited_nodes, names_closed};
@@ -96,6 +98,7 @@ fn limit_to(at: &mut Parts, ty: NodeRef, scope: u64) -> Result<(), NoMemory>
 pub fn close(at: &mut Parts, bound: &[Bound<'_>], env: &Env) -> Result<Behind, NoMemory>
     ensures carries { OnOk result (ClosesBindings at.old at.new (map closing_of bound.now)) }
     ensures names { IfOk result (λ e. e.env ≡ names_added (names_closed (map closing_of bound.now)) env.now) }
+    ensures grows { IfOk result (λ e. e.env ≡ newest_first e.entries.items ++ env.now) }
     ensures silent { Silent at.old at.new }
     ensures goes { Goes at.old at.new }
 {
@@ -160,6 +163,7 @@ fn close_names(
     entries: &mut Vec<Rc<Entry>>,
 ) -> Result<(), NoMemory>
     ensures generalises { OnOk result (GeneralisesAll at.old at.new (name_nodes names.now)) }
+    ensures entries { OnOk result (newest_first entries.new.items ≡ names_added (binds_of names.now) (newest_first entries.old.items)) }
     ensures silent { Silent at.old at.new }
     ensures goes { Goes at.old at.new }
 {

@@ -13,7 +13,7 @@ use Rattle.binding_rows.proofs.ItemRows.{let_given}
 use Rattle.binding_rows.proofs.ItemTurns.{none_written}
 -- for the crate that types items
 pub use Rattle.binding_rows.proofs.ItemOrders.{done_none, done_then, weaker}
-pub use Rattle.binding_rows.proofs.ItemKinds.{let_done, idle_given, exception_done, plain_scope, noted_between}
+pub use Rattle.binding_rows.proofs.ItemKinds.{let_done, idle_given, plain_scope, noted_between}
 pub use Rattle.typing_rows.proofs.Noted.{noted_on}
 
 -- The node of an item is noted, the type variables that were written are forgotten, and its `let` is typed; then its names are in scope.

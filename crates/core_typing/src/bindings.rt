@@ -1,11 +1,12 @@
 //! Bindings: their demands in order, and their names with generalised types.
 #![tactic(auto, using(typing_state::proofs::Going::goes_trans, typing_state::proofs::Going::goes_refl, typing_state::proofs::Silence::store_silent, typing_state::proofs::Silence::silent_refl, typing_state::proofs::Silence::silent_trans))]
 
-ghost use Rattle.std.specs.Prelude.{◌-◌, ◌<◌, map, option_map, None, IfOk, OnOk};
+ghost use Rattle.std.specs.Prelude.{◌≡◌, ◌++◌, ◌-◌, ◌<◌, map, option_map, None, IfOk, OnOk};
 ghost use Rattle.tree_model.specs.Trees.{Place, yield_of};
 ghost use Rattle.syntax_tree.specs.View.{node_view};
 ghost use Rattle.row_parts.specs.Numbered.{operand_view};
 ghost use Rattle.type_nodes.specs.Views.{numbers};
+ghost use Rattle.env_table.specs.Views.{newest_first};
 ghost use Rattle.operand_laws.specs.Operands.{number_of};
 ghost use Rattle.typing_state.specs.Goes.{Goes};
 ghost use Rattle.typing_steps.specs.Typing.{TypesRow};
@@ -62,6 +63,7 @@ pub fn type_bindings(
 ) -> Result<Behind, NoMemory>
     ensures carries { IfOk result (λ e. TypesItem at.old at.new env.now e.env number (node_view item.now)) }
     ensures named { OnOk result (AreWrittenIn (yield_of (node_view item.now)) at.new.written) }
+    ensures grows { IfOk result (λ e. e.env ≡ newest_first e.entries.items ++ env.now) }
     ensures goes { Goes at.old at.new }
 {
     raise(at)?;

@@ -1,5 +1,5 @@
 -- What an item that declares an exception makes: its entry, and the root of its type.
-use Rattle.std.specs.Prelude.{◌≡◌, ℕ, Bool, List, [], ◌∷◌, Option, Some, None, option_map}
+use Rattle.std.specs.Prelude.{◌≡◌, ℕ, Bool, true, List, [], ◌∷◌, Option, Some, None, option_map}
 use Rattle.std.specs.declared.rc.Rc.{Rc}
 use Rattle.std.specs.declared.alloc.Global.{Global}
 use Rattle.token_model.specs.Kinds.{Tok}
@@ -16,6 +16,7 @@ use Rattle.env_table.specs.declared.entries.Kind.TheVariants as kind
 use Rattle.env_table.specs.declared.entries.What.TheVariants as what
 use Rattle.row_parts.specs.Numbered.{Numbered, first_in, token_in}
 use Rattle.typing_state.specs.declared.parts.Parts.{Parts}
+use Rattle.typing_steps.specs.States.{is_aloud, sight}
 use Rattle.operand_laws.specs.Formed.{row_of, IsFormed}
 use Rattle.operand_laws.specs.Operands.{number_of, parts_of}
 use Rattle.decl_typing.specs.declared.decls.Declared.{Declared}
@@ -35,13 +36,14 @@ abbrev pub ClosesException : (a b : Parts) → List Entry → (number : ℕ) →
 ClosesException a b env number t e r =
     IsFormed number t → row_of t ≡ con_row → ClosesOption a b env [] [] (λ c. exception_asks c (constructor_row (number_of a.item number) (parts_of a.item number t))) (constructor_row (number_of a.item number) (parts_of a.item number t)).argument exn_type e r
 
--- The entry that such a call answers is an exception with that root, of the name that is written.
+-- The entry that such a call answers is an exception with that root, of the name that is written. `scoped`: where faults are reported, the names in scope are recorded for its node.
 pub record DeclaresOne (a b : Parts) (env : List Entry) (number : ℕ) (t : Tree) (e : ℕ) (x : Entry) : Type 0 where
   pub root : ℕ
   pub name : Name
   pub entry : IsException x name root (is_some (first_in number t 2))
   pub named : option_map (λ (k : Tok). k.name) (token_in t 0) ≡ Some name
   pub closes : ClosesException a b env number t e root
+  pub scoped : is_aloud a.telling ≡ true → (sight b).scopes a.item number ≡ Some env
 
 -- it answers none where no name is written
 abbrev pub DeclaresException : (a b : Parts) → List Entry → (number : ℕ) → Tree → (e : ℕ) → Option (Rc Entry Global) → Type 0

@@ -14,7 +14,7 @@ use Rattle.typing_rows.specs.Noted.{AreNoted}
 use Rattle.binding_rows.specs.Outside.{Outside, OnlyBetween}
 use Rattle.binding_rows.proofs.ItemOrders.{done_none, done_one, done_then, done_between, one_outside, then_outside}
 use Rattle.type_expressions.proofs.Untyped.{untyped_then}
-use Rattle.declared_items.specs.Adding.{AddsAlike, ItemAdded, ItemsAdded}
+use Rattle.declared_items.specs.Adding.{AddsAlike, AddedIf, ItemAdded, ItemsAdded}
 
 -- nothing is added
 pub adds_none : (E : Choice → Environment) (G : Letters) → AddsAlike E E G G
@@ -45,6 +45,27 @@ unfolding done_none
 items_added_none {E} {G = G} seen only at constants noted = record { done = done_none seen only at constants noted (λ k. absurd k); alike = adds_none E G; untyped = record { types = only.types } }
 
 -- an item that was done from a state that differs only as between items
-pub item_added_between : {E : Choice → Environment} {m : Item} {seen names : Seen} {a b d : Parts} {G : Letters} {after : List Entry} → OnlyBetween (sight a) (sight b) → ItemAdded E m seen names b d G after → ItemAdded E m seen names a d G after
+pub item_added_between : {K : Type 0} {E : Choice → Environment} {m : Item} {seen names : Seen} {a b d : Parts} {G : Letters} {after : List Entry} → OnlyBetween (sight a) (sight b) → AddedIf K E m seen names b d G after → AddedIf K E m seen names a d G after
 unfolding done_between
 item_added_between {a = a} {b = b} only p = record { done = done_between only p.done; alike = p.alike; untyped = untyped_then {a = a} {b = b} (record { types = only.types }) p.untyped }
+
+-- an item of which more is known
+pub added_anyhow : {K : Type 0} {E : Choice → Environment} {m : Item} {seen names : Seen} {a b : Parts} {G : Letters} {after : List Entry} → AddedIf K E m seen names a b G after → ItemAdded E m seen names a b G after
+added_anyhow p = record {
+  done = record {
+    letters = p.done.letters;
+    env = p.done.env;
+    carried = p.done.carried;
+    owners = p.done.owners;
+    clear = λ k. absurd k;
+    sees = λ k. absurd k;
+    outside = p.done.outside;
+    knows = λ k. absurd k;
+    noted = p.done.noted;
+    adds = p.done.adds;
+    named = p.done.named;
+    constants = p.done.constants;
+  };
+  alike = p.alike;
+  untyped = p.untyped;
+}

@@ -54,5 +54,7 @@ judged_outside {a} {b} at rest =
       unknown = at.unknown;
       are_bound = record { inside = λ k r e. absurd (cc); bound = λ K own v h. absurd (no_yes h) };
       entries = no_names;
+      plain = true;
+      keeps = λ e. record { plain = λ none. none; entries = no_names };
     } in
     record { outside = outside_declared at on none; older = declared_older at on none; grows = declared_grows at on none }

@@ -1,5 +1,6 @@
 pub mod Frames
 pub mod Adding
+mod Bare
 pub mod Exceptions
 pub mod Shapes
 pub mod Types

@@ -1,22 +1,26 @@
 -- Bindings make the same demands, and their names stand in scope alike.
 use Rattle.std.proofs.Common.{◌≡◌, Bool, true, false, List, [], ◌∷◌, ◌++◌, Option, Some, None, refl}
-use Rattle.signature_model.specs.Declarations.{Name}
+use Rattle.signature_model.specs.Declarations.{Name, Label}
 use Rattle.typing_model.specs.Contexts.{Context, Bound, with_names, entries_with, generalised_in}
 use Rattle.typing_model.specs.Parts.{Form, a_constructor, a_path, a_float, a_false, a_field, no_expression, other, Expression, Pattern, TypeExpression, Binding}
 use Rattle.typing_model.specs.Patterns.{all_names}
 use Rattle.typing_model.specs.Bindings.{matched_apart, read_annotation, has_annotation, right_side, names_of_group, bound_in_turn, patterns_first, right_sides, bindings_ask, generalises, held_by, types_written, within_let}
 use Rattle.typing_laws.proofs.Steady.{Each, no_one, one_and, IfThere, absent, there}
-use Rattle.demand_laws.proofs.Alike.{Same, alone, at_treated, behind, Two, left, right, more, names_too}
+use Rattle.demand_laws.proofs.Alike.{Same, alone, at_treated, behind, Both, Two, left, right, more, names_too}
 use Rattle.demand_laws.proofs.Types.{AlikeType}
 use Rattle.demand_laws.proofs.Patterns.{AlikePattern}
 
--- the label of a field is one in both of two contexts
+-- two labels are mutable, or neither is
+pub record IsMutableAlike (l m : Label) : Type 0 where
+  pub one : l.is_mutable ≡ m.is_mutable
+
+-- the label of a field is alike in both of two contexts
 abbrev pub IsFormAlike : Form → Type 0
 IsFormAlike (a_constructor p) = Unit {0}
 IsFormAlike (a_path p) = Unit {0}
 IsFormAlike a_float = Unit {0}
 IsFormAlike a_false = Unit {0}
-IsFormAlike (a_field p label) = (c : Two) → label (left c) ≡ label (right c)
+IsFormAlike (a_field p label) = (c : Two) → Both IsMutableAlike (label (left c)) (label (right c))
 IsFormAlike no_expression = Unit {0}
 IsFormAlike other = Unit {0}
 

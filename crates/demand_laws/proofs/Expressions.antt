@@ -1,27 +1,28 @@
 -- Expressions make the same demands.
-use Rattle.std.proofs.Common.{◌≡◌, ◌∙◌, ℕ, ◌+◌, ◌==◌, Bool, true, false, not, ◌&&◌, List, [], ◌∷◌, ◌++◌, codes, length, Option, Some, None, option_map, refl, ap, if◌then◌else◌}
+use Rattle.std.proofs.Common.{◌≡◌, ◌∙◌, ℕ, ◌+◌, ◌==◌, Bool, true, false, not, ◌&&◌, List, [], ◌∷◌, ◌++◌, codes, length, Option, Some, None, option_map, refl, sym, ap, if◌then◌else◌}
 use Rattle.token_model.specs.Kinds.{Tok, Kind, lower, upper, float, false_word}
 use Rattle.tree_model.specs.Trees.{Place}
 use Rattle.type_model.specs.Types.{Typ}
 use Rattle.type_model.specs.Schemes.{Scheme}
 use Rattle.signature_model.specs.Declarations.{Name, Declaration, Label, type_of}
 use Rattle.signature_model.specs.Components.{same_name}
-use Rattle.signature_model.specs.Entries.{value_kind, label_kind}
+use Rattle.signature_model.specs.Entries.{Entry, Referent, a_label, value_kind, label_kind}
+use Rattle.signature_model.specs.Lookups.{FoundAmong}
 use Rattle.typing_model.specs.Demands.{value_word, label_word}
 use Rattle.typing_model.specs.Demands.{site, equal, test, not_mutable, Condition, instance}
 use Rattle.typing_model.specs.Contexts.{Context, type_at, letter, ask}
 use Rattle.typing_model.specs.Parts.{Written, Form, a_constructor, a_path, a_float, a_false, a_field, no_expression, other, Expression, Pattern, TypeExpression, Binding, Case, Field, no_expression_at, place_of, last_of}
 use Rattle.typing_model.specs.Names.{names_of, Built, found_by, referent_of, then_by, scheme_in, label_in, used_at}
-use Rattle.typing_model.specs.Records.{ask_once, name_in, field_type, ask_complete, declaration_found, labels_in}
+use Rattle.typing_model.specs.Records.{ask_once, name_in, field_type, is_among, absent_label, ask_complete, declaration_found, labels_in}
 use Rattle.typing_model.specs.BuiltIns.{exn_type}
 use Rattle.typing_model.specs.Patterns.{built_by, ask_all, behind_first, kept_record, all_names}
 use Rattle.typing_model.specs.Bindings.{generalises}
 use Rattle.typing_model.specs.Expressions.{expression, typed_all, all_values, has_type, is_of, value_asks, name_form, name_expression, constructor_expression, path_expression, literal_form, constant_expression, hole_expression, parenthesised, begun, first_type, each_has, list_expression, cons_expression, tuple_expression, applied_from, behind_constructor, behind_unbound, behind_argument, constructor_applied, application_asks, is_built_value, application, operator_applied, name_of, infix_expression, prefix_expression, under_sign, minus_asks, minus_expression, label_found, field_asks, field_expression, ask_mutable, set_expression, pun_asks, field_value_asks, is_some, fields_ask, labels_of, names_of_labels, is_record, record_asks, update_asks, first_field, before_labels, loose_value, all_field_values, none_mutable, is_constant_record, record_expression, update_expression, assert_asks, assert_expression, if_expression, sequence_expression, while_expression, loop_names, for_expression, guard_asks, case_asks, later_cases, cases_ask, cases_are_values, match_expression, try_expression, function_expression, fun_expression, all_generalise, let_expression}
 use Rattle.typing_laws.proofs.Steady.{Each, no_one, one_and, each_append, IfThere, absent, there}
-use Rattle.demand_laws.proofs.Alike.{Same, alone, one, at_treated, behind, at_demand, at_bound, along, Two, left, right, more, lookup_alike}
-use Rattle.demand_laws.proofs.Types.{AlikeType}
-use Rattle.demand_laws.proofs.Patterns.{AlikePattern, constant_alike, built_alike, constructor_alone_alike, applied_alike, ask_record_alike, declaration_alike, kept_record_alike, BothThere, neither, both, field_types}
-use Rattle.demand_laws.proofs.Bindings.{IsFormAlike, AlikeExpression, AlikeBinding, apart_alike, bindings_alike, generalises_alike, in_let}
+use Rattle.demand_laws.proofs.Alike.{Same, alone, one, at_treated, behind, at_demand, at_bound, along, BothThere, neither, both, Both, nones, somes, Lists, no_pair, pair_and, LabelAlike, DeclarationAlike, ReferentAlike, one_thing, two_values, two_exceptions, two_constructors, two_labels, two_types, ComesAlike, at_entry, at_hole, at_nothing, Two, left, right, more, lookup_alike}
+use Rattle.demand_laws.proofs.Types.{AlikeType, both_if}
+use Rattle.demand_laws.proofs.Patterns.{AlikePattern, constant_alike, BuiltAlike, not_built, both_built, built_alike, constructor_alone_alike, applied_alike, ask_record_alike, declaration_alike, kept_record_alike, labels_alike, field_types}
+use Rattle.demand_laws.proofs.Bindings.{IsMutableAlike, IsFormAlike, AlikeExpression, AlikeBinding, apart_alike, bindings_alike, generalises_alike, in_let}
 
 pub record AlikeCase (a : Case) : Type 0 where
   pub pattern : AlikePattern a.pattern
@@ -161,19 +162,19 @@ behind_constructor_alike : (c : Two) (n : ℕ) (head : Expression) (es : List Ex
 behind_constructor_alike c n head [] no_one = alone (λ k. refl)
 behind_constructor_alike c n head (e ∷ es) each = applied_from_alike c n 3 0 head.at (type_at (left c) head.node) (type_at (right c) head.node) (e ∷ es) each
 
-argument_alike : (c : Two) (n : ℕ) (head : Expression) (es : List Expression) (o : Option Built) → Each TypedAlike es → Same (behind_argument (left c) n head es o) (behind_argument (right c) n head es o)
-argument_alike c n head es None each = unbound_alike c n head es each
-argument_alike c n head es (Some b) each = behind_constructor_alike c n head es each
+argument_alike : (c : Two) (n : ℕ) (head : Expression) (es : List Expression) {o p : Option Built} → BuiltAlike o p → Each TypedAlike es → Same (behind_argument (left c) n head es o) (behind_argument (right c) n head es p)
+argument_alike c n head es not_built each = unbound_alike c n head es each
+argument_alike c n head es (both_built a) each = behind_constructor_alike c n head es each
 
 constructor_applied_alike : (c : Two) (n : ℕ) (p : Written) (head : Expression) (es : List Expression) → TypedAlike head → Each TypedAlike es → Same (constructor_applied (left c) n p head es) (constructor_applied (right c) n p head es)
 constructor_applied_alike c n p head [] h no_one = h.types c
 constructor_applied_alike c n p head (e ∷ es) h (one_and s each) =
     behind (applied_alike c n p head.node (head.node ∷ []) (e.typed (left c)) (e.typed (right c)) 2 e.at (type_at (left c) e.node) (type_at (right c) e.node) (s.types c))
-    (along (behind_argument (left c) n head es) (behind_argument (right c) n head es) (then_alike p.last (built_alike c n p)) (argument_alike c n head es (then_by p.last (built_by (left c) n p)) each))
+    (argument_alike c n head es (then_alike p.last) each)
   where
-    then_alike : (o : Option Tok) → ((t : Tok) → built_by (left c) n p t ≡ built_by (right c) n p t) → then_by o (built_by (left c) n p) ≡ then_by o (built_by (right c) n p)
-    then_alike None f = refl
-    then_alike (Some t) f = f t
+    then_alike : (o : Option Tok) → BuiltAlike (then_by o (built_by (left c) n p)) (then_by o (built_by (right c) n p))
+    then_alike None = not_built
+    then_alike (Some t) = built_alike c n p t
 
 application_alike : (c : Two) (n : ℕ) (head : Expression) (es : List Expression) (f : Form) → TypedAlike head → Each TypedAlike es →
     Same (application_asks (left c) n head es f) (application_asks (right c) n head es f)
@@ -233,17 +234,38 @@ eneg_alike n q t e s = usual n q other _ _ tt (λ c. minus_alike c n t e e.form 
 abbrev field_behind : Context → ℕ → Expression → Option (Declaration × Label) → List Condition
 field_behind c n e o = elim o [ None ↦ [] | Some (d, l) ↦ has_type c n 1 e (used_at c n (type_of d)) ++ is_of c n (used_at c n l.body) ]
 
--- the label that a path finds is one
-label_alike : (c : Two) (p : Written) → label_found (left c) p ≡ label_found (right c) p
+-- a label that is found, with its declaration
+record FieldAlike (x y : Declaration × Label) : Type 0 where
+  pub label : LabelAlike x.1 y.1
+
+-- the label that a path finds is alike
+field_there : (r : Referent) → Both FieldAlike (label_in r) (label_in r)
+field_there (a_label d l) = somes (record { label = record { name = refl; is_mutable = refl } })
+field_there _ = nones
+
+stands_field : {r q : Referent} → ReferentAlike r q → Both FieldAlike (label_in r) (label_in q)
+stands_field (one_thing {r = r}) = field_there r
+stands_field two_values = nones
+stands_field (two_exceptions h) = nones
+stands_field (two_constructors h) = nones
+stands_field (two_labels o d h) = somes (record { label = h })
+stands_field (two_types d) = nones
+
+label_both : {f g : FoundAmong Entry} → ComesAlike f g → Both FieldAlike (then_by (referent_of f) label_in) (then_by (referent_of g) label_in)
+label_both (at_entry a) = stands_field a.stands
+label_both at_hole = nones
+label_both at_nothing = nones
+
+label_alike : (c : Two) (p : Written) → Both FieldAlike (label_found (left c) p) (label_found (right c) p)
 label_alike c p = by p.last
   where
-    by : (o : Option Tok) → then_by o (λ t. then_by (referent_of (found_by (left c) label_kind p t)) label_in) ≡ then_by o (λ t. then_by (referent_of (found_by (right c) label_kind p t)) label_in)
-    by None = refl
-    by (Some t) = ap (λ f. then_by (referent_of f) label_in) (lookup_alike (names_of p.qualifiers) label_kind t.name refl c.names)
+    by : (o : Option Tok) → Both FieldAlike (then_by o (λ t. then_by (referent_of (found_by (left c) label_kind p t)) label_in)) (then_by o (λ t. then_by (referent_of (found_by (right c) label_kind p t)) label_in))
+    by None = nones
+    by (Some t) = label_both (lookup_alike (names_of p.qualifiers) label_kind t.name c.names)
 
-field_silent : (c : Two) (n : ℕ) (e : Expression) (o : Option (Declaration × Label)) → Same (field_behind (left c) n e o) (field_behind (right c) n e o)
-field_silent c n e None = alone (λ k. refl)
-field_silent c n e (Some (d, l)) = alone (λ k. refl)
+field_silent : (c : Two) (n : ℕ) (e : Expression) {o r : Option (Declaration × Label)} → Both FieldAlike o r → Same (field_behind (left c) n e o) (field_behind (right c) n e r)
+field_silent c n e nones = alone (λ k. refl)
+field_silent c n e (somes h) = alone (λ k. refl)
 
 field_asked : (c : Two) (n : ℕ) (e : Expression) (p : Written) → AlikeExpression e → Same (field_asks (left c) n e p) (field_asks (right c) n e p)
 field_asked c n e p s = by p.last refl
@@ -251,21 +273,33 @@ field_asked c n e p s = by p.last refl
     by : (o : Option Tok) → p.last ≡ o → Same (field_asks (left c) n e p) (field_asks (right c) n e p)
     by None g = rw (g, field_asks) (s.types c)
     by (Some t) g = rw (g, field_asks) (behind (behind (s.types c) (at_bound c n 0 label_kind label_word p t (alone (λ k. refl))))
-        (along (field_behind (left c) n e) (field_behind (right c) n e) (ap (λ o. if c.first.kept (site n 0) then o else None) (label_alike c p)) (field_silent c n e (if c.first.kept (site n 0) then label_found (left c) p else None))))
+        (field_silent c n e (both_if (c.first.kept (site n 0)) (label_alike c p))))
 
 pub field_alike : (n : ℕ) (q : Place) (e : Expression) (p : Written) → AlikeExpression e → AlikeExpression (field_expression n q e p)
 field_alike n q e p s = record {
   types = λ c. field_asked c n e p s;
   negates = λ c. field_asked c n e p s;
   values = s.values;
-  forms = λ c. ap (λ o. if c.first.kept (site n 0) then option_map (λ r. r.1) o else None) (label_alike c p);
+  forms = λ c. both_if (c.first.kept (site n 0)) (mutable_both (label_alike c p));
 }
+  where
+    mutable_both : {o r : Option (Declaration × Label)} → Both FieldAlike o r → Both IsMutableAlike (option_map (λ z. z.1) o) (option_map (λ z. z.1) r)
+    mutable_both nones = nones
+    mutable_both (somes h) = somes (record { one = h.label.is_mutable })
 
 abbrev mutable_behind : ℕ → Written → Option Label → List Condition
 mutable_behind n p o = elim o [ None ↦ [] | Some l ↦ elim p.last [ None ↦ [] | Some t ↦ ask n 0 (place_of t) (test (not_mutable t.name) l.is_mutable) ] ]
 
+mutable_one : (n : ℕ) (p : Written) {o r : Option Label} → Both IsMutableAlike o r → Same (mutable_behind n p o) (mutable_behind n p r)
+mutable_one n p nones = alone (λ k. refl)
+mutable_one n p (somes {x = l} {y = m} h) = by p.last
+  where
+    by : (t : Option Tok) → Same (elim t [ None ↦ [] | Some t ↦ ask n 0 (place_of t) (test (not_mutable t.name) l.is_mutable) ]) (elim t [ None ↦ [] | Some t ↦ ask n 0 (place_of t) (test (not_mutable t.name) m.is_mutable) ])
+    by None = alone (λ k. refl)
+    by (Some t) = alone (λ k. refl)
+
 mutable_alike : (c : Two) (n : ℕ) (f : Form) → IsFormAlike f → Same (ask_mutable (left c) n f) (ask_mutable (right c) n f)
-mutable_alike c n (a_field p label) h = along (mutable_behind n p) (mutable_behind n p) (h c) (one (mutable_behind n p (label (left c))))
+mutable_alike c n (a_field p label) h = mutable_one n p (h c)
 mutable_alike c n (a_constructor p) h = alone (λ k. refl)
 mutable_alike c n (a_path p) h = alone (λ k. refl)
 mutable_alike c n a_float h = alone (λ k. refl)
@@ -308,40 +342,56 @@ field_value_alike c is_found f names t u h s = by f.value refl s.value
     by None e absent = rw (e, field_value_asks) (at_treated (behind (one (if is_found then ask_once f.node 0 names f.label else [])) (pun_alike c f t u h)))
     by (Some v) e (there z) = rw (e, field_value_asks) (at_treated (behind (one (if is_found then ask_once f.node 0 names f.label else [])) (behind (z.types c) (has v h))))
 
-fields_alike : (c : Two) (n : ℕ) (found : Option Declaration) (fs : List Field) (names : List Name) → Each AlikeField fs →
-    Same (fields_ask (left c) n found fs names) (fields_ask (right c) n found fs names)
-fields_alike c n found [] names no_one = alone (λ k. refl)
-fields_alike c n found (f ∷ fs) names (one_and s each) =
-    behind (field_value_alike c (is_some found) f names (field_type (left c) n found f.label) (field_type (right c) n found f.label) (field_types c n found f.label) s) (fields_alike c n found fs (names ++ name_in f.label) each)
+some_alike : {o r : Option Declaration} → Both DeclarationAlike o r → is_some o ≡ is_some r
+some_alike nones = refl
+some_alike (somes a) = refl
 
-record_silent : (c : Two) (n : ℕ) (o : Option Declaration) → Same (is_record (left c) n o) (is_record (right c) n o)
-record_silent c n None = alone (λ k. refl)
-record_silent c n (Some d) = alone (λ k. refl)
+fields_alike : (c : Two) (n : ℕ) {o r : Option Declaration} (fs : List Field) (names : List Name) → Both DeclarationAlike o r → Each AlikeField fs →
+    Same (fields_ask (left c) n o fs names) (fields_ask (right c) n r fs names)
+fields_alike c n [] names a no_one = alone (λ k. refl)
+fields_alike c n {o} {r} (f ∷ fs) names a (one_and s each) =
+    behind (along (λ b. field_value_asks (left c) b f names (field_type (left c) n o f.label)) (λ b. field_value_asks (right c) b f names (field_type (right c) n r f.label)) (some_alike a)
+    (field_value_alike c (is_some o) f names (field_type (left c) n o f.label) (field_type (right c) n r f.label) (field_types c n f.label a) s)) (fields_alike c n fs (names ++ name_in f.label) a each)
+
+record_silent : (c : Two) (n : ℕ) {o r : Option Declaration} → Both DeclarationAlike o r → Same (is_record (left c) n o) (is_record (right c) n r)
+record_silent c n nones = alone (λ k. refl)
+record_silent c n (somes a) = alone (λ k. refl)
+
+-- the first label that isn't written has one name in both
+absent_one : (seen : List Name) {ls ms : List Label} → Lists LabelAlike ls ms → absent_label ls seen ≡ absent_label ms seen
+absent_one seen no_pair = refl
+absent_one seen (pair_and {x = l} {y = m} {xs = ls} {ys = ms} a h) =
+    ap (λ n. if is_among n seen then absent_label ls seen else Some n) a.name ∙ ap (λ o. if is_among m.name seen then o else Some m.name) (absent_one seen h)
+
+absent_alike : (seen : List Name) {o r : Option Declaration} → Both DeclarationAlike o r → then_by o (λ d. absent_label (labels_in d.shape) seen) ≡ then_by r (λ d. absent_label (labels_in d.shape) seen)
+absent_alike seen nones = refl
+absent_alike seen (somes a) = absent_one seen (labels_alike a.shape)
+
+complete_alike : (n j : ℕ) (q : Place) (seen : List Name) {o r : Option Declaration} → Both DeclarationAlike o r → Same (ask_complete n j q o seen) (ask_complete n j q r seen)
+complete_alike n j q seen {o} {r} a = by (then_by o (λ d. absent_label (labels_in d.shape) seen)) refl (sym (absent_alike seen a))
+  where
+    by : (x : Option Name) → then_by o (λ d. absent_label (labels_in d.shape) seen) ≡ x → then_by r (λ d. absent_label (labels_in d.shape) seen) ≡ then_by o (λ d. absent_label (labels_in d.shape) seen) → Same (ask_complete n j q o seen) (ask_complete n j q r seen)
+    by None e f = rw (f, e, ask_complete) (alone (λ k. refl))
+    by (Some x) e f = rw (f, e, ask_complete) (alone (λ k. refl))
 
 record_asked : (c : Two) (n : ℕ) (q : Place) (fs : List Field) (xs ys us vs : List Condition) → Each AlikeField fs → Same xs ys → Same us vs → Same (record_asks (left c) n q xs us fs) (record_asks (right c) n q ys vs fs)
 record_asked c n q fs xs ys us vs each h g =
     let ls : List Written = labels_of fs in
-    let found : kept_record (left c) n 1 ls ≡ kept_record (right c) n 1 ls = kept_record_alike c n 1 ls in
-    behind (behind (behind (behind (behind h (ask_record_alike c n 1 ls)) g)
-    (along (λ o. fields_ask (left c) n o fs []) (λ o. fields_ask (right c) n o fs []) found (fields_alike c n (kept_record (left c) n 1 ls) fs [] each)))
-    (along (λ o. ask_complete n 3 q o (names_of_labels fs)) (λ o. ask_complete n 3 q o (names_of_labels fs)) found (one (ask_complete n 3 q (kept_record (left c) n 1 ls) (names_of_labels fs)))))
-    (along (is_record (left c) n) (is_record (right c) n) found (record_silent c n (kept_record (left c) n 1 ls)))
+    let found : Both DeclarationAlike (kept_record (left c) n 1 ls) (kept_record (right c) n 1 ls) = kept_record_alike c n 1 ls in
+    behind (behind (behind (behind (behind h (ask_record_alike c n 1 ls)) g) (fields_alike c n fs [] found each)) (complete_alike n 3 q (names_of_labels fs) found)) (record_silent c n found)
 
 abbrev has_record : Context → ℕ → Expression → Option Declaration → List Condition
 has_record c n e o = elim o [ None ↦ [] | Some d ↦ has_type c n 2 e (used_at c n (type_of d)) ]
 
-has_silent : (c : Two) (n : ℕ) (e : Expression) (o : Option Declaration) → Same (has_record (left c) n e o) (has_record (right c) n e o)
-has_silent c n e None = alone (λ k. refl)
-has_silent c n e (Some d) = alone (λ k. refl)
+has_silent : (c : Two) (n : ℕ) (e : Expression) {o r : Option Declaration} → Both DeclarationAlike o r → Same (has_record (left c) n e o) (has_record (right c) n e r)
+has_silent c n e nones = alone (λ k. refl)
+has_silent c n e (somes a) = alone (λ k. refl)
 
 update_asked : (c : Two) (n : ℕ) (e : Expression) (fs : List Field) → AlikeExpression e → Each AlikeField fs → Same (update_asks (left c) n e fs) (update_asks (right c) n e fs)
 update_asked c n e fs s each =
     let ls : List Written = labels_of fs in
-    let found : kept_record (left c) n 1 ls ≡ kept_record (right c) n 1 ls = kept_record_alike c n 1 ls in
-    behind (behind (behind (behind (s.types c) (ask_record_alike c n 1 ls))
-    (along (has_record (left c) n e) (has_record (right c) n e) found (has_silent c n e (kept_record (left c) n 1 ls))))
-    (along (λ o. fields_ask (left c) n o fs []) (λ o. fields_ask (right c) n o fs []) found (fields_alike c n (kept_record (left c) n 1 ls) fs [] each)))
-    (along (is_record (left c) n) (is_record (right c) n) found (record_silent c n (kept_record (left c) n 1 ls)))
+    let found : Both DeclarationAlike (kept_record (left c) n 1 ls) (kept_record (right c) n 1 ls) = kept_record_alike c n 1 ls in
+    behind (behind (behind (behind (s.types c) (ask_record_alike c n 1 ls)) (has_silent c n e found)) (fields_alike c n fs [] found each)) (record_silent c n found)
 
 -- a record by its first part
 first_alike : (f : Form) (n : ℕ) (value : Option Expression) → IfThere AlikeExpression value → Each AlikeField (first_field f n value)
@@ -390,9 +440,21 @@ field_values_alike c [] no_one = refl
 field_values_alike c (f ∷ fs) (one_and s each) =
     and_alike (value_in (left c) f.value) (all_field_values (left c) fs) (value_in (right c) f.value) (all_field_values (right c) fs) (value_in_alike c f.value s.value) (field_values_alike c fs each)
 
+none_mutable_alike : {ls ms : List Label} → Lists LabelAlike ls ms → none_mutable ls ≡ none_mutable ms
+none_mutable_alike no_pair = refl
+none_mutable_alike (pair_and {x = l} {y = m} {xs = ls} {ys = ms} a h) = and_alike (not l.is_mutable) (none_mutable ls) (not m.is_mutable) (none_mutable ms) (ap not a.is_mutable) (none_mutable_alike h)
+
+abbrev is_constant : Option Declaration → Bool
+is_constant o = elim o [ None ↦ true | Some d ↦ none_mutable (labels_in d.shape) ]
+
+constant_declaration : {o r : Option Declaration} → Both DeclarationAlike o r → is_constant o ≡ is_constant r
+constant_declaration nones = refl
+constant_declaration (somes a) = none_mutable_alike (labels_alike a.shape)
+
 constant_record_alike : (c : Two) (fs : List Field) → Each AlikeField fs → is_constant_record (left c) fs ≡ is_constant_record (right c) fs
-constant_record_alike c fs each = ap (λ b. elim (declaration_found (left c) (labels_of fs)) [ None ↦ true | Some d ↦ none_mutable (labels_in d.shape) ] && b) (field_values_alike c fs each) ∙
-    ap (λ o. elim o [ None ↦ true | Some d ↦ none_mutable (labels_in d.shape) ] && all_field_values (right c) fs) (declaration_alike c (labels_of fs))
+constant_record_alike c fs each =
+    and_alike (is_constant (declaration_found (left c) (labels_of fs))) (all_field_values (left c) fs) (is_constant (declaration_found (right c) (labels_of fs))) (all_field_values (right c) fs)
+    (constant_declaration (declaration_alike c (labels_of fs))) (field_values_alike c fs each)
 
 pub erecord_alike : (n : ℕ) (q : Place) (e : Expression) (value : Option Expression) (fs : List Field) → AlikeExpression e → IfThere AlikeExpression value → Each AlikeField fs →
     AlikeExpression (record_expression n q e value fs)

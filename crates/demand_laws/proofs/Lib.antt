@@ -1,7 +1,9 @@
 pub mod Alike
 pub mod Types
 pub mod Patterns
+pub mod Declarations
 pub mod Bindings
 pub mod Expressions
 pub mod Rows
 pub mod Texts
+pub mod Bare

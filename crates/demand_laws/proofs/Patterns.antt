@@ -1,22 +1,25 @@
 -- Patterns make the same demands.
-use Rattle.std.proofs.Common.{◌≡◌, ℕ, ◌+◌, Bool, true, false, List, [], ◌∷◌, ◌++◌, map, Option, Some, None, option_map, refl, sym, ◌∙◌, ap, if◌then◌else◌}
+use Rattle.std.proofs.Common.{◌≡◌, ℕ, ◌+◌, ◌==◌, Bool, true, false, List, [], ◌∷◌, ◌++◌, map, Option, Some, None, option_map, refl, sym, ◌∙◌, ap, if◌then◌else◌}
 use Rattle.token_model.specs.Kinds.{Tok, Kind, int, float, char, str, unit, nil, true_word, false_word}
 use Rattle.tree_model.specs.Trees.{Place}
 use Rattle.type_model.specs.Types.{Typ}
-use Rattle.signature_model.specs.Declarations.{Name, Declaration, Label, type_of}
-use Rattle.signature_model.specs.Entries.{Environment, constructor_kind}
-use Rattle.signature_model.specs.Lookups.{scope_behind}
+use Rattle.signature_model.specs.Declarations.{Name, Shape, Declaration, Label, type_of}
+use Rattle.signature_model.specs.Components.{same_name}
+use Rattle.signature_model.specs.Entries.{Environment, Entry, Referent, a_label, constructor_kind}
+use Rattle.signature_model.specs.Lookups.{FoundAmong, scope_behind}
 use Rattle.typing_model.specs.Demands.{constructor_word}
-use Rattle.typing_model.specs.Demands.{site, Demand, equal, Condition, same}
+use Rattle.typing_model.specs.Demands.{site, Demand, equal, test, arity, Condition, same}
 use Rattle.typing_model.specs.Contexts.{Context, Bound, type_at, ask}
-use Rattle.typing_model.specs.Parts.{Written, Pattern, TypeExpression, FieldPattern, no_pattern_at}
-use Rattle.typing_model.specs.Names.{is_no_scope, lost_behind, names_of, entry_of, label_in, then_by, referent_of, Built, built_in, used_at}
+use Rattle.typing_model.specs.Parts.{Written, Pattern, TypeExpression, FieldPattern, no_pattern_at, place_of}
+use Rattle.fault_model.specs.Refused.{refused_as}
+use Rattle.typing_model.specs.Names.{is_no_scope, lost_behind, names_of, entry_of, label_in, then_by, referent_of, found_by, Built, built_in, used_at}
 use Rattle.typing_model.specs.BuiltIns.{constant, constant_by, exn_type}
 use Rattle.typing_model.specs.Records.{labels_of, ask_once, field_type, ask_record, first_lost, first_token, declaration_found, name_in, find_label, labels_in}
-use Rattle.typing_model.specs.Patterns.{matched_all, matched_each, ask_all, over, pname, pconst, pneg, with_built, built_by, constructor_alone, pcon, argument_has, of_one_type, applied_constructor, argument_type, papp, pparen, plist, pcons, ptuple, pas, find_bound, common_names, sides_differ, name_apart, sides_beside, por, each_has, first_type, behind_first, mentions_in_field, match_pun, match_field, match_fields, labels_of_fields, kept_record, precord}
+use Rattle.typing_model.specs.Patterns.{matched_all, matched_each, ask_all, over, pname, pconst, pneg, taken_by, with_built, built_by, constructor_alone, pcon, argument_has, of_one_type, applied_constructor, argument_type, papp, pparen, plist, pcons, ptuple, pas, find_bound, common_names, sides_differ, name_apart, sides_beside, por, each_has, first_type, behind_first, mentions_in_field, match_pun, match_field, match_fields, labels_of_fields, kept_record, precord}
+use Rattle.typing_laws.proofs.Bools.{no_yes}
 use Rattle.typing_laws.proofs.Steady.{Each, no_one, one_and, IfThere, absent, there}
-use Rattle.demand_laws.proofs.Alike.{Same, alone, one, at_treated, at_known, behind, at_demand, at_bound, along, Two, NamesAlike, left, right, scope_alike, lookup_alike, record_alike}
-use Rattle.demand_laws.proofs.Types.{AlikeType}
+use Rattle.demand_laws.proofs.Alike.{Same, alone, one, at_treated, at_known, behind, at_demand, at_bound, along, BothThere, neither, both, Both, nones, somes, Lists, no_pair, pair_and, LabelAlike, ShapeAlike, opaque, variants, records, DeclarationAlike, ReferentAlike, one_thing, two_values, two_exceptions, two_constructors, two_labels, two_types, ComesAlike, at_entry, at_hole, at_nothing, Two, NamesAlike, left, right, scope_alike, lookup_alike, record_alike}
+use Rattle.demand_laws.proofs.Types.{AlikeType, declaration_one}
 
 -- a pattern makes the same demands in both of two contexts
 pub record AlikePattern (p : Pattern) : Type 0 where
@@ -66,9 +69,38 @@ pconst_alike n q t = over_alike n q [] (constant false n t) no_one (constant_ali
 pub pneg_alike : (n : ℕ) (q : Place) (t : Option Tok) → AlikePattern (pneg n q t)
 pneg_alike n q t = over_alike n q [] (constant true n t) no_one (constant_alike true n t)
 
--- the constructor that is found
-pub built_alike : (c : Two) (n : ℕ) (p : Written) (t : Tok) → built_by (left c) n p t ≡ built_by (right c) n p t
-built_alike c n p t = ap (λ f. if c.first.kept (site n 0) then then_by (referent_of f) (built_in exn_type) else None) (lookup_alike (names_of p.qualifiers) constructor_kind t.name refl c.names)
+-- Two constructors that are found are alike: both take an argument, or neither does.
+pub data BuiltAlike : Option Built → Option Built → Type 0 where
+  not_built : BuiltAlike None None
+  both_built : {b d : Built} → BothThere b.argument d.argument → BuiltAlike (Some b) (Some d)
+
+there_as_itself : (o : Option Typ) → BothThere o o
+there_as_itself None = neither
+there_as_itself (Some t) = both
+
+one_built : (o : Option Built) → BuiltAlike o o
+one_built None = not_built
+one_built (Some b) = both_built (there_as_itself b.argument)
+
+stands_built : {r q : Referent} → ReferentAlike r q → BuiltAlike (built_in exn_type r) (built_in exn_type q)
+stands_built (one_thing {r = r}) = one_built (built_in exn_type r)
+stands_built two_values = not_built
+stands_built (two_exceptions h) = both_built h
+stands_built (two_constructors h) = both_built h
+stands_built (two_labels o d h) = not_built
+stands_built (two_types d) = not_built
+
+found_built : {f g : FoundAmong Entry} → ComesAlike f g → BuiltAlike (then_by (referent_of f) (built_in exn_type)) (then_by (referent_of g) (built_in exn_type))
+found_built (at_entry a) = stands_built a.stands
+found_built at_hole = not_built
+found_built at_nothing = not_built
+
+pub built_alike : (c : Two) (n : ℕ) (p : Written) (t : Tok) → BuiltAlike (built_by (left c) n p t) (built_by (right c) n p t)
+built_alike c n p t = by (c.first.kept (site n 0))
+  where
+    by : (b : Bool) → BuiltAlike (if b then then_by (referent_of (found_by (left c) constructor_kind p t)) (built_in exn_type) else None) (if b then then_by (referent_of (found_by (right c) constructor_kind p t)) (built_in exn_type) else None)
+    by true = found_built (lookup_alike (names_of p.qualifiers) constructor_kind t.name c.names)
+    by false = not_built
 
 -- that nodes have types makes no demand
 types_silent : (f : ℕ → Typ) (g : ℕ → Typ) (u v : Typ) (nodes : List ℕ) → Same (map (λ m. same (f m) u) nodes) (map (λ m. same (g m) v) nodes)
@@ -78,9 +110,19 @@ types_silent f g u v (m ∷ ms) = alone (types_silent f g u v ms).each
 of_one_alike : (c : Two) (n : ℕ) (nodes : List ℕ) → Same (of_one_type (left c) n nodes) (of_one_type (right c) n nodes)
 of_one_alike c n nodes = types_silent (type_at (left c)) (type_at (right c)) (type_at (left c) n) (type_at (right c) n) nodes
 
+-- how many arguments a constructor takes, by what it takes
+abbrev takes : Option Typ → ℕ
+takes o = elim o [ None ↦ 0 | Some t ↦ 1 ]
+
+takes_alike : {o p : Option Typ} → BothThere o p → takes o ≡ takes p
+takes_alike neither = refl
+takes_alike both = refl
+
 -- a constructor that is found, over arguments that make the same demands
-with_built_alike : (c : Two) (n own : ℕ) (t : Tok) (given : ℕ) (b : Built) (nodes : List ℕ) (xs ys : List Condition) → Same xs ys → Same (with_built (left c) n own t given b nodes xs) (with_built (right c) n own t given b nodes ys)
-with_built_alike c n own t given b nodes xs ys h = at_demand refl (behind h (types_silent (type_at (left c)) (type_at (right c)) (used_at (left c) own b.result) (used_at (right c) own b.result) nodes))
+with_built_alike : (c : Two) (n own : ℕ) (t : Tok) (given : ℕ) (b d : Built) (nodes : List ℕ) (xs ys : List Condition) → BothThere b.argument d.argument → Same xs ys →
+    Same (with_built (left c) n own t given b nodes xs) (with_built (right c) n own t given d nodes ys)
+with_built_alike c n own t given b d nodes xs ys a h =
+    at_demand (ap (λ k. refused_as (place_of t) (test (arity t.name k given) (k == given))) (takes_alike a)) (behind h (types_silent (type_at (left c)) (type_at (right c)) (used_at (left c) own b.result) (used_at (right c) own d.result) nodes))
 
 abbrev alone_behind : Context → ℕ → Tok → Option Built → List Condition
 alone_behind c n t o = elim o [ None ↦ [] | Some b ↦ with_built c n n t 0 b (n ∷ []) [] ]
@@ -88,21 +130,21 @@ alone_behind c n t o = elim o [ None ↦ [] | Some b ↦ with_built c n n t 0 b 
 pub constructor_alone_alike : (c : Two) (n : ℕ) (p : Written) → Same (constructor_alone (left c) n p) (constructor_alone (right c) n p)
 constructor_alone_alike c n p = by p.last refl
   where
-    found : (t : Tok) (o : Option Built) → Same (alone_behind (left c) n t o) (alone_behind (right c) n t o)
-    found t None = alone (λ k. refl)
-    found t (Some b) = with_built_alike c n n t 0 b (n ∷ []) [] [] (alone (λ k. refl))
+    found : (t : Tok) {o p : Option Built} → BuiltAlike o p → Same (alone_behind (left c) n t o) (alone_behind (right c) n t p)
+    found t not_built = alone (λ k. refl)
+    found t (both_built {b = b} {d = d} a) = with_built_alike c n n t 0 b d (n ∷ []) [] [] a (alone (λ k. refl))
 
     by : (o : Option Tok) → p.last ≡ o → Same (constructor_alone (left c) n p) (constructor_alone (right c) n p)
     by None e = rw (e, constructor_alone) (alone (λ k. refl))
-    by (Some t) e = rw (e, constructor_alone) (at_bound c n 0 constructor_kind constructor_word p t (along (alone_behind (left c) n t) (alone_behind (right c) n t) (built_alike c n p t) (found t (built_by (left c) n p t))))
+    by (Some t) e = rw (e, constructor_alone) (at_bound c n 0 constructor_kind constructor_word p t (found t (built_alike c n p t)))
 
 pub pcon_alike : (n : ℕ) (q : Place) (p : Written) → AlikePattern (pcon n q p)
 pcon_alike n q p = record { matches = λ c seen. constructor_alone_alike c n p }
 
 -- the argument of a constructor has its type where one is declared
-pub argument_has_alike : (n j : ℕ) (q : Place) (t u : Typ) (f g : Typ → Typ) (o : Option Typ) → Same (argument_has n j q t (option_map f o)) (argument_has n j q u (option_map g o))
-argument_has_alike n j q t u f g None = alone (λ k. refl)
-argument_has_alike n j q t u f g (Some x) = alone (λ k. refl)
+pub argument_has_alike : (n j : ℕ) (q : Place) (t u : Typ) (f g : Typ → Typ) {o p : Option Typ} → BothThere o p → Same (argument_has n j q t (option_map f o)) (argument_has n j q u (option_map g p))
+argument_has_alike n j q t u f g neither = alone (λ k. refl)
+argument_has_alike n j q t u f g both = alone (λ k. refl)
 
 -- behind the name of a constructor with an argument
 abbrev applied_behind : Context → ℕ → ℕ → List ℕ → List Condition → (Option Typ → List Condition) → Tok → Option Built → List Condition
@@ -115,15 +157,14 @@ applied_alike c n p head nodes xs ys j q t u h = by p.last refl
     unfound : Same (xs ++ of_one_type (left c) head nodes) (ys ++ of_one_type (right c) head nodes)
     unfound = behind h (of_one_alike c head nodes)
 
-    found : (x : Tok) (o : Option Built) → Same (applied_behind (left c) n head nodes xs (argument_has n j q t) x o) (applied_behind (right c) n head nodes ys (argument_has n j q u) x o)
-    found x None = unfound
-    found x (Some b) = with_built_alike c n head x 1 b nodes (xs ++ argument_has n j q t (argument_type (left c) head (Some b))) (ys ++ argument_has n j q u (argument_type (right c) head (Some b)))
-        (behind h (argument_has_alike n j q t u (used_at (left c) head) (used_at (right c) head) b.argument))
+    found : (x : Tok) {o r : Option Built} → BuiltAlike o r → Same (applied_behind (left c) n head nodes xs (argument_has n j q t) x o) (applied_behind (right c) n head nodes ys (argument_has n j q u) x r)
+    found x not_built = unfound
+    found x (both_built {b = b} {d = d} a) = with_built_alike c n head x 1 b d nodes (xs ++ argument_has n j q t (argument_type (left c) head (Some b))) (ys ++ argument_has n j q u (argument_type (right c) head (Some d))) a
+        (behind h (argument_has_alike n j q t u (used_at (left c) head) (used_at (right c) head) a))
 
     by : (o : Option Tok) → p.last ≡ o → Same (applied_constructor (left c) n p head nodes xs (argument_has n j q t)) (applied_constructor (right c) n p head nodes ys (argument_has n j q u))
     by None e = rw (e, applied_constructor) (at_treated (at_known unfound))
-    by (Some x) e = rw (e, applied_constructor) (at_treated (at_known (at_bound c n 0 constructor_kind constructor_word p x (
-        along (applied_behind (left c) n head nodes xs (argument_has n j q t) x) (applied_behind (right c) n head nodes ys (argument_has n j q u) x) (built_alike c n p x) (found x (built_by (left c) n p x))))))
+    by (Some x) e = rw (e, applied_constructor) (at_treated (at_known (at_bound c n 0 constructor_kind constructor_word p x (found x (built_alike c n p x)))))
 
 pub papp_alike : (n : ℕ) (q : Place) (head p : Pattern) → AlikePattern p → AlikePattern (papp n q head p)
 papp_alike n q head p s = by head.constructor refl
@@ -207,7 +248,7 @@ lost_alike {E} {F} h path (q ∷ qs) =
     scope_of [] = scope_alike q.name [] h
     scope_of (m ∷ ms) = scope_alike m (ms ++ q.name ∷ []) h
 
-first_lost_alike : {E F : Environment} → NamesAlike E F → (ps : List Written) → first_lost E ps ≡ first_lost F ps
+pub first_lost_alike : {E F : Environment} → NamesAlike E F → (ps : List Written) → first_lost E ps ≡ first_lost F ps
 first_lost_alike h [] = refl
 first_lost_alike {E} {F} h (p ∷ ps) =
     ap (λ o. elim (then_by p.last (λ t. o)) [ None ↦ first_lost E ps | Some q ↦ Some q ]) (lost_alike h [] p.qualifiers) ∙
@@ -222,29 +263,62 @@ ask_record_alike c n j ps = by (first_lost c.first.env ps) refl (sym (first_lost
     by None e f None g = rw (e, f, g, ask_record) (alone (λ k. refl))
     by None e f (Some t) g = rw (e, f, g, ask_record) (alone (λ k. refl))
 
--- the record that is found is one
-pub declaration_alike : (c : Two) (ps : List Written) → declaration_found (left c) ps ≡ declaration_found (right c) ps
-declaration_alike c ps = ap (λ f. then_by (entry_of f) (λ e. option_map (λ r. r.0) (label_in e.stands_for))) (record_alike (labels_of ps) c.names)
+-- the record that is found is alike
+record_there : (r : Referent) → Both DeclarationAlike (option_map (λ z. z.0) (label_in r)) (option_map (λ z. z.0) (label_in r))
+record_there (a_label d l) = somes (declaration_one d)
+record_there _ = nones
 
-pub kept_record_alike : (c : Two) (n j : ℕ) (ps : List Written) → kept_record (left c) n j ps ≡ kept_record (right c) n j ps
-kept_record_alike c n j ps = ap (λ o. if c.first.kept (site n j) then o else elim (first_token ps) [ None ↦ o | Some t ↦ None ]) (declaration_alike c ps)
+stands_record : {r q : Referent} → ReferentAlike r q → Both DeclarationAlike (option_map (λ z. z.0) (label_in r)) (option_map (λ z. z.0) (label_in q))
+stands_record (one_thing {r = r}) = record_there r
+stands_record two_values = nones
+stands_record (two_exceptions h) = nones
+stands_record (two_constructors h) = nones
+stands_record (two_labels o d h) = somes d
+stands_record (two_types d) = nones
 
--- two types that may be there are there both, or neither is
-pub data BothThere : Option Typ → Option Typ → Type 0 where
-  neither : BothThere None None
-  both : {t u : Typ} → BothThere (Some t) (Some u)
+record_both : {f g : FoundAmong Entry} → ComesAlike f g → Both DeclarationAlike (then_by (entry_of f) (λ e. option_map (λ r. r.0) (label_in e.stands_for))) (then_by (entry_of g) (λ e. option_map (λ r. r.0) (label_in e.stands_for)))
+record_both (at_entry a) = stands_record a.stands
+record_both at_hole = nones
+record_both at_nothing = nones
 
-pub field_types : (c : Two) (n : ℕ) (found : Option Declaration) (p : Written) → BothThere (field_type (left c) n found p) (field_type (right c) n found p)
-field_types c n None p = neither
-field_types c n (Some d) p = by p.last refl
+pub declaration_alike : (c : Two) (ps : List Written) → Both DeclarationAlike (declaration_found (left c) ps) (declaration_found (right c) ps)
+declaration_alike c ps = record_both (record_alike (labels_of ps) c.names)
+
+pub kept_record_alike : (c : Two) (n j : ℕ) (ps : List Written) → Both DeclarationAlike (kept_record (left c) n j ps) (kept_record (right c) n j ps)
+kept_record_alike c n j ps = by (c.first.kept (site n j)) (first_token ps) (declaration_alike c ps)
   where
-    of_label : (f g : Typ → Typ) (o : Option Label) → BothThere (option_map (λ l. f l.body) o) (option_map (λ l. g l.body) o)
-    of_label f g None = neither
-    of_label f g (Some l) = both
+    by : (b : Bool) (t : Option Tok) {o p : Option Declaration} → Both DeclarationAlike o p → Both DeclarationAlike (if b then o else elim t [ None ↦ o | Some t ↦ None ]) (if b then p else elim t [ None ↦ p | Some t ↦ None ])
+    by true t h = h
+    by false None h = h
+    by false (Some t) h = nones
 
-    by : (o : Option Tok) → p.last ≡ o → BothThere (field_type (left c) n (Some d) p) (field_type (right c) n (Some d) p)
-    by None e = rw (e, field_type) neither
-    by (Some t) e = rw (e, field_type) (of_label (used_at (left c) n) (used_at (right c) n) (find_label t.name (labels_in d.shape)))
+-- the labels of two shapes that are alike
+pub labels_alike : {s t : Shape} → ShapeAlike s t → Lists LabelAlike (labels_in s) (labels_in t)
+labels_alike opaque = no_pair
+labels_alike (variants h) = no_pair
+labels_alike (records h) = h
+
+found_label : (n : Name) {ls ms : List Label} → Lists LabelAlike ls ms → Both LabelAlike (find_label n ls) (find_label n ms)
+found_label n no_pair = nones
+found_label n (pair_and {x = l} {y = m} {xs = ls} {ys = ms} a h) = by (same_name n l.name) (same_name n m.name) (ap (same_name n) a.name) (found_label n h)
+  where
+    by : (b d : Bool) → b ≡ d → Both LabelAlike (find_label n ls) (find_label n ms) → Both LabelAlike (if b then Some l else find_label n ls) (if d then Some m else find_label n ms)
+    by true true e rest = somes a
+    by false false e rest = rest
+    by true false e rest = absurd (no_yes (sym e))
+    by false true e rest = absurd (no_yes e)
+
+pub field_types : (c : Two) (n : ℕ) {o r : Option Declaration} (p : Written) → Both DeclarationAlike o r → BothThere (field_type (left c) n o p) (field_type (right c) n r p)
+field_types c n p nones = neither
+field_types c n p (somes {x = d} {y = e} a) = by p.last refl
+  where
+    of_label : (f g : Typ → Typ) {o r : Option Label} → Both LabelAlike o r → BothThere (option_map (λ l. f l.body) o) (option_map (λ l. g l.body) r)
+    of_label f g nones = neither
+    of_label f g (somes h) = both
+
+    by : (o : Option Tok) → p.last ≡ o → BothThere (field_type (left c) n (Some d) p) (field_type (right c) n (Some e) p)
+    by None q = rw (q, field_type) neither
+    by (Some t) q = rw (q, field_type) (of_label (used_at (left c) n) (used_at (right c) n) (found_label t.name (labels_alike a.shape)))
 
 pun_alike : (c : Two) (f : FieldPattern) (seen : List Name) (t u : Option Typ) → BothThere t u → Same (match_pun (left c) f seen t) (match_pun (right c) f seen u)
 pun_alike c f seen t u h = by f.label.last refl h
@@ -270,26 +344,33 @@ field_alike c n is_found f names seen t u types s = by f.pattern refl s.pattern
     by None e absent = rw (e, match_field) (at_treated (behind (one (if is_found then ask_once f.node 0 names f.label else [])) (pun_alike c f seen t u types)))
     by (Some p) e (there z) = rw (e, match_field) (at_treated (behind (one (if is_found then ask_once f.node 0 names f.label else [])) (behind (z.matches c seen) (has p types))))
 
-fields_alike : (c : Two) (n : ℕ) (found : Option Declaration) (fs : List FieldPattern) (names seen : List Name) → Each AlikeFieldPattern fs →
-    Same (match_fields (left c) n found fs names seen) (match_fields (right c) n found fs names seen)
-fields_alike c n found [] names seen no_one = alone (λ k. refl)
-fields_alike c n found (f ∷ fs) names seen (one_and s each) =
-    behind (field_alike c n _ f names seen (field_type (left c) n found f.label) (field_type (right c) n found f.label) (field_types c n found f.label) s)
-    (fields_alike c n found fs (names ++ name_in f.label) (seen ++ mentions_in_field f) each)
+-- whether a record is found
+abbrev is_there : Option Declaration → Bool
+is_there o = elim o [ None ↦ false | Some d ↦ true ]
+
+there_alike : {o r : Option Declaration} → Both DeclarationAlike o r → is_there o ≡ is_there r
+there_alike nones = refl
+there_alike (somes a) = refl
+
+fields_alike : (c : Two) (n : ℕ) {o r : Option Declaration} (fs : List FieldPattern) (names seen : List Name) → Both DeclarationAlike o r → Each AlikeFieldPattern fs →
+    Same (match_fields (left c) n o fs names seen) (match_fields (right c) n r fs names seen)
+fields_alike c n [] names seen a no_one = alone (λ k. refl)
+fields_alike c n {o} {r} (f ∷ fs) names seen a (one_and s each) =
+    behind (along (λ b. match_field (left c) n b f names seen (field_type (left c) n o f.label)) (λ b. match_field (right c) n b f names seen (field_type (right c) n r f.label)) (there_alike a)
+    (field_alike c n (is_there o) f names seen (field_type (left c) n o f.label) (field_type (right c) n r f.label) (field_types c n f.label a) s))
+    (fields_alike c n fs (names ++ name_in f.label) (seen ++ mentions_in_field f) a each)
 
 -- the node has the type of a record, if it is found
 abbrev is_of_record : Context → ℕ → Option Declaration → List Condition
 is_of_record c n o = elim o [ None ↦ [] | Some d ↦ same (type_at c n) (used_at c n (type_of d)) ∷ [] ]
 
-of_record_alike : (c : Two) (n : ℕ) (o : Option Declaration) → Same (is_of_record (left c) n o) (is_of_record (right c) n o)
-of_record_alike c n None = alone (λ k. refl)
-of_record_alike c n (Some d) = alone (λ k. refl)
+of_record_alike : (c : Two) (n : ℕ) {o r : Option Declaration} → Both DeclarationAlike o r → Same (is_of_record (left c) n o) (is_of_record (right c) n r)
+of_record_alike c n nones = alone (λ k. refl)
+of_record_alike c n (somes a) = alone (λ k. refl)
 
 pub precord_alike : (n : ℕ) (q : Place) (fs : List FieldPattern) → Each AlikeFieldPattern fs → AlikePattern (precord n q fs)
 precord_alike n q fs each = record {
   matches = λ c seen.
       let ls : List Written = labels_of_fields fs in
-      behind (behind (ask_record_alike c n 0 ls)
-      (along (λ o. match_fields (left c) n o fs [] seen) (λ o. match_fields (right c) n o fs [] seen) (kept_record_alike c n 0 ls) (fields_alike c n (kept_record (left c) n 0 ls) fs [] seen each)))
-      (along (is_of_record (left c) n) (is_of_record (right c) n) (kept_record_alike c n 0 ls) (of_record_alike c n (kept_record (left c) n 0 ls)));
+      behind (behind (ask_record_alike c n 0 ls) (fields_alike c n fs [] seen (kept_record_alike c n 0 ls) each)) (of_record_alike c n (kept_record_alike c n 0 ls));
 }

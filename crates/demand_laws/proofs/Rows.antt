@@ -1,20 +1,24 @@
 -- What each row asks makes the same demands where its parts do.
-use Rattle.std.proofs.Common.{ℕ, ◌==◌, Bool, true, false, List, [], ◌∷◌, ◌++◌, filter_map, Option, Some, None, refl, if◌then◌else◌}
+use Rattle.std.proofs.Common.{ℕ, ◌==◌, Bool, true, false, List, [], ◌∷◌, ◌++◌, filter_map, Option, Some, None, option_map, refl, if◌then◌else◌}
 use Rattle.tree_model.specs.Trees.{Place, place}
-use Rattle.tree_model.specs.Rows.{Row, tvar_row, tcon_row, tparen_row, tapp_row, ttuple_row, tarrow_row, pname_row, pany_row, pconst_row, pneg_row, pcon_row, pparen_row, plist_row, precord_row, papp_row, pcons_row, ptuple_row, por_row, pas_row, name_row, econ_row, epath_row, econst_row, hole_row, eparen_row, ebegin_row, elist_row, erecord_row, prefix_row, field_row, eapp_row, eassert_row, ewhile_row, efor_row, eneg_row, infix_row, econs_row, etuple_row, eset_row, eif_row, eseq_row, elet_row, ematch_row, etry_row, efun_row, efunction_row}
-use Rattle.typing_model.specs.Parts.{Expression, Pattern, TypeExpression, Child, in_slot, path_in, token_in, expressions_in, expression_in, patterns_in, pattern_in, types_in, type_in, first_of, no_expression_at, no_pattern_at, no_type_at}
+use Rattle.tree_model.specs.Rows.{Row, alias_row, variant_row, record_row, con_row, label_row, decl_row, tvar_row, tcon_row, tparen_row, tapp_row, ttuple_row, tarrow_row, pname_row, pany_row, pconst_row, pneg_row, pcon_row, pparen_row, plist_row, precord_row, papp_row, pcons_row, ptuple_row, por_row, pas_row, name_row, econ_row, epath_row, econst_row, hole_row, eparen_row, ebegin_row, elist_row, erecord_row, prefix_row, field_row, eapp_row, eassert_row, ewhile_row, efor_row, eneg_row, infix_row, econs_row, etuple_row, eset_row, eif_row, eseq_row, elet_row, ematch_row, etry_row, efun_row, efunction_row}
+use Rattle.typing_model.specs.Parts.{Expression, Pattern, TypeExpression, Told, own, Child, in_slot, path_in, token_in, expressions_in, expression_in, patterns_in, pattern_in, types_in, type_in, first_of, no_expression_at, no_pattern_at, no_type_at}
 use Rattle.typing_model.specs.Patterns.{pattern_row}
 use Rattle.typing_model.specs.TypeExpressions as types
 use Rattle.typing_model.specs.Expressions.{expression_row, cases_in, fields_in, bindings_in, is_some, update_expression, record_expression}
+use Rattle.typing_model.specs.Names.{then_by}
+use Rattle.typing_model.specs.Declarations.{told_row, right_side_row}
+use Rattle.typing_model.specs.Meanings.{constructor_of, label_of, declaration_of}
 use Rattle.typing_laws.proofs.Steady.{Each, no_one, one_and, each_append, IfThere, absent, there}
-use Rattle.typing_laws.proofs.SteadyRows.{mapped, filtered, first_there}
+use Rattle.typing_laws.proofs.SteadyRows.{mapped, filtered, first_there, then_there}
 use Rattle.demand_laws.proofs.Alike.{alone}
 use Rattle.demand_laws.proofs.Types.{AlikeType, no_type_alike, tvar_alike, tcon_alike, tapp_alike, tparen_alike, ttuple_alike, tarrow_alike}
 use Rattle.demand_laws.proofs.Patterns.{AlikePattern, AlikeFieldPattern, no_pattern_alike, over_alike, pname_alike, pconst_alike, pneg_alike, pcon_alike, papp_alike, pparen_alike, plist_alike, pcons_alike, ptuple_alike, pas_alike, por_alike, precord_alike}
+use Rattle.demand_laws.proofs.Declarations.{AlikeConstructor, AlikeLabel, AlikeTold, of_constructors, of_labels, AlikeRight, of_another, of_own, AlikeDeclaration}
 use Rattle.demand_laws.proofs.Bindings.{AlikeExpression, AlikeBinding}
 use Rattle.demand_laws.proofs.Expressions.{AlikeCase, AlikeField, no_expression_alike, name_alike, econ_alike, path_alike, econst_alike, hole_alike, eparen_alike, ebegin_alike, elist_alike, econs_alike, etuple_alike, eapp_alike, infix_alike, prefix_alike, eneg_alike, field_alike, eset_alike, erecord_alike, eupdate_alike, eassert_alike, eif_alike, eseq_alike, ewhile_alike, efor_alike, ematch_alike, etry_alike, efunction_alike, efun_alike, elet_alike}
 
--- a part of a row, as each sort that stands in a `let`
+-- a part of a row, as each sort that stands in a `let`, a declaration of types or an exception
 pub record AlikeChild (x : Child) : Type 0 where
   pub expression : AlikeExpression x.expression
   pub pattern : AlikePattern x.pattern
@@ -23,6 +27,11 @@ pub record AlikeChild (x : Child) : Type 0 where
   pub case : IfThere AlikeCase x.case
   pub field : IfThere AlikeField x.field
   pub field_pattern : IfThere AlikeFieldPattern x.field_pattern
+  pub constructor : IfThere AlikeConstructor x.constructor
+  pub label : IfThere AlikeLabel x.label
+  pub told : IfThere AlikeTold x.told
+  pub right_side : IfThere AlikeRight x.right_side
+  pub declaration : IfThere AlikeDeclaration x.declaration
 
 -- parts of a slot
 pub slot_alike : (s : ℕ) (cs : List Child) → Each AlikeChild cs → Each AlikeChild (in_slot s cs)
@@ -72,6 +81,44 @@ cases_alike s cs each = filtered AlikeCase (λ c. c.case) (in_slot s cs) (λ c h
 
 fields_alike : (s : ℕ) (cs : List Child) → Each AlikeChild cs → Each AlikeField (fields_in s cs)
 fields_alike s cs each = filtered AlikeField (λ c. c.field) (in_slot s cs) (λ c h. h.field) (slot_alike s cs each)
+
+first_alike : (s : ℕ) (cs : List Child) → Each AlikeChild cs → IfThere AlikeChild (first_of (in_slot s cs))
+first_alike s cs each = first_there (in_slot s cs) (slot_alike s cs each)
+
+-- the first constructor of a slot, and the declarations
+pub one_constructor_alike : (s : ℕ) (cs : List Child) → Each AlikeChild cs → IfThere AlikeConstructor (then_by (first_of (in_slot s cs)) (λ c. c.constructor))
+one_constructor_alike s cs each = then_there AlikeConstructor (first_of (in_slot s cs)) (λ c. c.constructor) (λ c h. h.constructor) (first_alike s cs each)
+
+pub declarations_alike : (s : ℕ) (cs : List Child) → Each AlikeChild cs → Each AlikeDeclaration (filter_map (λ c. c.declaration) (in_slot s cs))
+declarations_alike s cs each = filtered AlikeDeclaration (λ c. c.declaration) (in_slot s cs) (λ c h. h.declaration) (slot_alike s cs each)
+
+-- the parts of a declaration by their rows
+pub constructor_row_alike : (r : Row) (n : ℕ) (cs : List Child) → Each AlikeChild cs → IfThere AlikeConstructor (constructor_of r n cs)
+constructor_row_alike con_row n cs h = there (record { argument = first_there (types_in 2 cs) (types_alike 2 cs h) })
+constructor_row_alike _ n cs h = absent
+
+pub label_row_alike : (r : Row) (n : ℕ) (cs : List Child) → Each AlikeChild cs → IfThere AlikeLabel (label_of r n cs)
+label_row_alike label_row n cs h = there (record { body = one_type_alike 3 cs h })
+label_row_alike _ n cs h = absent
+
+pub told_row_alike : (r : Row) (cs : List Child) → Each AlikeChild cs → IfThere AlikeTold (told_row r cs)
+told_row_alike variant_row cs h = there (of_constructors (filtered AlikeConstructor (λ c. c.constructor) (in_slot 1 cs) (λ c g. g.constructor) (slot_alike 1 cs h)))
+told_row_alike record_row cs h = there (of_labels (filtered AlikeLabel (λ c. c.label) (in_slot 1 cs) (λ c g. g.label) (slot_alike 1 cs h)))
+told_row_alike _ cs h = absent
+
+own_alike : {o : Option Told} → IfThere AlikeTold o → IfThere AlikeRight (option_map own o)
+own_alike absent = absent
+own_alike (there s) = there (of_own s)
+
+pub right_row_alike : (r : Row) (n : ℕ) (cs : List Child) → Each AlikeChild cs → IfThere AlikeRight (right_side_row r n cs)
+right_row_alike alias_row n cs h = there (of_another (one_type_alike 0 cs h) (then_there AlikeTold (first_of (in_slot 2 cs)) (λ c. c.told) (λ c g. g.told) (first_alike 2 cs h)))
+right_row_alike variant_row n cs h = own_alike (told_row_alike variant_row cs h)
+right_row_alike record_row n cs h = own_alike (told_row_alike record_row cs h)
+right_row_alike _ n cs h = absent
+
+pub declaration_row_alike : (r : Row) (n : ℕ) (cs : List Child) → Each AlikeChild cs → IfThere AlikeDeclaration (declaration_of r n cs)
+declaration_row_alike decl_row n cs h = there (record { right = then_there AlikeRight (first_of (in_slot 2 cs)) (λ c. c.right_side) (λ c g. g.right_side) (first_alike 2 cs h) })
+declaration_row_alike _ n cs h = absent
 
 -- an expression by its row
 pub expression_row_alike : (r : Row) (n : ℕ) (q : Place) (cs : List Child) → Each AlikeChild cs → AlikeExpression (expression_row r n q cs)

@@ -1,17 +1,20 @@
 -- Type expressions make the same demands.
-use Rattle.std.proofs.Common.{◌≡◌, ℕ, Bool, true, false, List, [], ◌∷◌, Option, Some, None, refl, ap, if◌then◌else◌}
+use Rattle.std.proofs.Common.{◌≡◌, ℕ, ◌==◌, Bool, true, false, List, [], ◌∷◌, length, Option, Some, None, refl, ap, if◌then◌else◌}
 use Rattle.token_model.specs.Kinds.{Tok}
 use Rattle.tree_model.specs.Trees.{Place}
-use Rattle.signature_model.specs.Declarations.{Declaration}
-use Rattle.signature_model.specs.Entries.{type_kind}
+use Rattle.type_model.specs.Types.{Typ}
+use Rattle.signature_model.specs.Declarations.{Shape, Opaque, Variant, Labels, Declaration}
+use Rattle.signature_model.specs.Entries.{Entry, Referent, a_type, type_kind}
+use Rattle.signature_model.specs.Lookups.{FoundAmong}
 use Rattle.typing_model.specs.Demands.{type_word}
-use Rattle.typing_model.specs.Demands.{site}
+use Rattle.typing_model.specs.Demands.{site, test, arity}
 use Rattle.typing_model.specs.Contexts.{Variables, in_item, parameters, unresolved_in}
-use Rattle.typing_model.specs.Parts.{Written, TypeExpression, no_type_at}
+use Rattle.typing_model.specs.Parts.{Written, TypeExpression, no_type_at, place_of}
 use Rattle.typing_model.specs.Names.{names_of, then_by, referent_of, found_by, declaration_in}
 use Rattle.typing_model.specs.TypeExpressions.{index_from, variable_asks, tvar, read_all, declared_type, constructor_asks, tcon, tapp, in_parentheses, equal_of_one, tparen, ttuple, tarrow}
+use Rattle.fault_model.specs.Refused.{refused_as}
 use Rattle.typing_laws.proofs.Steady.{Each, no_one, one_and}
-use Rattle.demand_laws.proofs.Alike.{Same, alone, behind, at_demand, at_bound, along, Two, left, right, lookup_alike}
+use Rattle.demand_laws.proofs.Alike.{Same, alone, behind, at_demand, at_bound, BothThere, neither, both, Both, nones, somes, Lists, no_pair, pair_and, ShapeAlike, opaque, variants, records, DeclarationAlike, ReferentAlike, one_thing, two_values, two_exceptions, two_constructors, two_labels, two_types, Two, left, right, ComesAlike, at_entry, at_hole, at_nothing, lookup_alike}
 
 -- a type expression makes the same demands in both of two contexts
 pub record AlikeType (t : TypeExpression) : Type 0 where
@@ -51,19 +54,56 @@ if_alike : (b : Bool) {xs ys us vs : List _} → Same xs us → Same ys vs → S
 if_alike true h g = h
 if_alike false h g = g
 
-declared_alike : (c : Two) (n : ℕ) (t : Tok) (ns : List ℕ) (o : Option Declaration) → Same (declared_type (left c) n t ns o) (declared_type (right c) n t ns o)
-declared_alike c n t ns None = unresolved_alike c n c.first.variables
-declared_alike c n t ns (Some d) = at_demand refl (if_alike (c.first.kept (site n 1)) (alone (λ k. refl)) (unresolved_alike c n c.first.variables))
+declared_alike : (c : Two) (n : ℕ) (t : Tok) (ns : List ℕ) {o p : Option Declaration} → Both DeclarationAlike o p → Same (declared_type (left c) n t ns o) (declared_type (right c) n t ns p)
+declared_alike c n t ns nones = unresolved_alike c n c.first.variables
+declared_alike c n t ns (somes a) = at_demand (ap (λ k. refused_as (place_of t) (test (arity t.name k (length ns)) (k == length ns))) a.arity) (if_alike (c.first.kept (site n 1)) (alone (λ k. refl)) (unresolved_alike c n c.first.variables))
+
+-- a declaration is alike itself
+lists_one : {A : Type 0} {R : A → A → Type 0} → ((x : A) → R x x) → (xs : List A) → Lists R xs xs
+lists_one f [] = no_pair
+lists_one f (x ∷ xs) = pair_and (f x) (lists_one f xs)
+
+argument_one : (o : Option Typ) → BothThere o o
+argument_one None = neither
+argument_one (Some t) = both
+
+shape_one : (s : Shape) → ShapeAlike s s
+shape_one Opaque = opaque
+shape_one (Variant ks) = variants (lists_one (λ k. record { name = refl; argument = argument_one k.argument }) ks)
+shape_one (Labels ls) = records (lists_one (λ l. record { name = refl; is_mutable = refl }) ls)
+
+pub declaration_one : (d : Declaration) → DeclarationAlike d d
+declaration_one d = record { arity = refl; shape = shape_one d.shape }
+
+-- the declaration that a path finds is alike
+declaration_there : (r : Referent) → Both DeclarationAlike (declaration_in r) (declaration_in r)
+declaration_there (a_type d) = somes (declaration_one d)
+declaration_there _ = nones
+
+declared_in : {r q : Referent} → ReferentAlike r q → Both DeclarationAlike (declaration_in r) (declaration_in q)
+declared_in (one_thing {r = r}) = declaration_there r
+declared_in two_values = nones
+declared_in (two_exceptions h) = nones
+declared_in (two_constructors h) = nones
+declared_in (two_labels o d h) = nones
+declared_in (two_types d) = somes d
+
+declared_both : {f g : FoundAmong Entry} → ComesAlike f g → Both DeclarationAlike (then_by (referent_of f) declaration_in) (then_by (referent_of g) declaration_in)
+declared_both (at_entry a) = declared_in a.stands
+declared_both at_hole = nones
+declared_both at_nothing = nones
+
+-- what is found where a demand is kept
+pub both_if : {A : Type 0} {R : A → A → Type 0} (b : Bool) {o p : Option A} → Both R o p → Both R (if b then o else None) (if b then p else None)
+both_if true h = h
+both_if false h = nones
 
 constructor_alike : (c : Two) (n : ℕ) (p : Written) (ns : List ℕ) → Same (constructor_asks (left c) n p ns) (constructor_asks (right c) n p ns)
 constructor_alike c n p ns = by p.last refl
   where
     by : (o : Option Tok) → p.last ≡ o → Same (constructor_asks (left c) n p ns) (constructor_asks (right c) n p ns)
     by None e = rw (e, constructor_asks) (unresolved_alike c n c.first.variables)
-    by (Some t) e = rw (e, constructor_asks) (at_bound c n 0 type_kind type_word p t (
-        along (declared_type (left c) n t ns) (declared_type (right c) n t ns)
-        (ap (λ f. if c.first.kept (site n 0) then then_by (referent_of f) declaration_in else None) (lookup_alike (names_of p.qualifiers) type_kind t.name refl c.names))
-        (declared_alike c n t ns (if c.first.kept (site n 0) then then_by (referent_of (found_by (left c) type_kind p t)) declaration_in else None))))
+    by (Some t) e = rw (e, constructor_asks) (at_bound c n 0 type_kind type_word p t (declared_alike c n t ns (both_if (c.first.kept (site n 0)) (declared_both (lookup_alike (names_of p.qualifiers) type_kind t.name c.names)))))
 
 pub tcon_alike : (n : ℕ) (q : Place) (p : Written) → AlikeType (tcon n q p)
 tcon_alike n q p = record { reads = λ c. constructor_alike c n p []; reads_group = λ c. constructor_alike c n p [] }

@@ -1,1 +1,2 @@
--- No definition of its own.
+-- Choices of types that agree on the record types that are re-exported.
+pub mod Agreeing

@@ -11,7 +11,8 @@ use Rattle.typing_model.specs.Messages.{complaint_text}
 use Rattle.typing_model.specs.Contexts.{Choice}
 use Rattle.typing_model.specs.Typings.{conditions_of, IsKept, IsPrincipal}
 use Rattle.typing_model.specs.First.{program_items, IsFirst}
-use Rattle.typing_model.specs.Plain.{has_lets_alone}
+use Rattle.typing_model.specs.Plain.{has_values_alone}
+use Rattle.fault_model.specs.Values.{are_bare}
 
 -- the kind of fault that a complaint is
 abbrev pub kind_of_complaint : Complaint → TyperKind
@@ -82,18 +83,19 @@ abbrev pub standing : List TyperFault → List Refused
 standing [] = []
 standing (f ∷ fs) = if is_warning f.kind then standing fs else record { at = f.span; kind = f.kind; says = says_by f.kind f.message } ∷ standing fs
 
--- items of a text that are `let` and `;;` alone, each of fewer than 2^32 nodes
-pub record AreOfLets (items : List Tree) : Type 0 where
+-- items of a text that are `let`, `;;` and exceptions that have a name and take no argument, each of fewer than 2^32 nodes
+pub record AreOfValues (items : List Tree) : Type 0 where
   pub tokens : List Tok
   pub parsed : items ≡ program_items tokens
   pub few : All (λ t. size_of t < 2 ^ 32) items
-  pub lets : has_lets_alone items ≡ true
+  pub values : has_values_alone items ≡ true
+  pub bare : are_bare items ≡ true
 
 -- the same of the items of a text
-pub record IsOfLets (text : List ℕ) : Type 0 where
+pub record IsOfValues (text : List ℕ) : Type 0 where
   pub tokens : List Tok
   pub lexed : Lex text tokens
-  pub items : AreOfLets (program_items tokens)
+  pub items : AreOfValues (program_items tokens)
 
 -- What of the faults of items is fixed by a principal typing with the kept demands: the place and the kind of each, and the message of those on names, in the order of the demands.
 pub record AreRefused (items : List Tree) (faults : List Refused) : Type 0 where

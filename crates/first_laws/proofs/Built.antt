@@ -99,6 +99,8 @@ declares_built_in h roots names apart older of = record {
   unknown = names_of_before (closed h.declared) names older of;
   are_bound = root_bound (root h.declared roots names);
   entries = newest (entry_as (sym h.name) (sym (ap kind_of h.kind)) (of_type h.is (built_in_as h.declared roots names))) no_names;
+  plain = false;
+  keeps = λ e. absurd (no_yes e);
 }
 
 -- The next item starts among the names of before and that of the built-in type.

@@ -1,5 +1,5 @@
 -- After declarations the names of the code are those of the definitions.
-use Rattle.std.proofs.Common.{◌≡◌, ◌⊎◌, ◌∙◌, ℕ, zero, suc, ◌<◌, true, false, List, [], ◌∷◌, ◌++◌, length, Option, Some, refl, sym, subst, inl, inr}
+use Rattle.std.proofs.Common.{◌≡◌, ◌⊎◌, ◌∙◌, ℕ, zero, suc, ◌<◌, ◌&&◌, true, List, [], ◌∷◌, ◌++◌, length, Option, Some, refl, sym, subst, inl, inr}
 use Rattle.std.specs.Prelude.{slice_get}
 use Rattle.type_model.specs.Types.{Typ, occurs}
 use Rattle.type_model.specs.Schemes.{Scheme}
@@ -17,7 +17,8 @@ use Rattle.typing_conditions.specs.Assumptions.{SchemeFits, SchemeReads}
 use Rattle.typing_conditions.specs.Environments.{EnvAs}
 use Rattle.typing_conditions.specs.Standing.{IsIn, Covers, Stands}
 use Rattle.typing_conditions.specs.Declared.{DeclaredAs, ExceptionAs}
-use Rattle.typing_laws.proofs.Bools.{no_yes}
+use Rattle.typing_conditions.specs.Surroundings.{HasOwnLabels}
+use Rattle.typing_laws.proofs.Bools.{and_cases}
 use Rattle.typing_conditions.specs.Sights.{Sight, Letters}
 use Rattle.typing_conditions.proofs.Own.{own_of}
 use Rattle.typing_conditions.proofs.Steps.{same_node}
@@ -108,8 +109,18 @@ outside_declared {a} {b} {G} {env} {more} {E} {F} at on new = record {
   covered = let own = own_of b.nodes on.sound in
       covers_more SchemeReads specified (DeclaredAs a.nodes at.roots at.names) (DeclaredAs b.nodes (new.new_roots ++ at.roots) new.new_names) (ExceptionAs a.nodes at.roots at.names) (ExceptionAs b.nodes (new.new_roots ++ at.roots) new.new_names)
       b.nodes new.new_roots at.roots more F new.are_bound new.entries (later own.0 own.1) (later_exception own.0 own.1) env (λ r sc h. h.root.among) at.covered;
-  known = false;
-  knows = λ known. absurd (no_yes known);
+  known = at.known && new.plain;
+  knows = λ known.
+      let own = own_of b.nodes on.sound in
+      let (was, are) = and_cases at.known new.plain known in
+      let names = at.knows was in
+      let adds = new.keeps are in
+      record {
+        plain = adds.plain names.plain;
+        covered = covers_more SchemeReads specified (λ d e. DeclaredAs a.nodes at.roots at.names d e × HasOwnLabels e) (λ d e. DeclaredAs b.nodes (new.new_roots ++ at.roots) new.new_names d e × HasOwnLabels e)
+            (ExceptionAs a.nodes at.roots at.names) (ExceptionAs b.nodes (new.new_roots ++ at.roots) new.new_names)
+            b.nodes new.new_roots at.roots more F new.are_bound adds.entries (λ d e h. (later own.0 own.1 d e h.0, h.1)) (later_exception own.0 own.1) env (λ r sc h. h.root.among) names.covered;
+      };
   reads = λ K V ch own reads g.
       stands_more SchemeReads specified (DeclaredAs a.nodes at.roots at.names) (DeclaredAs b.nodes (new.new_roots ++ at.roots) new.new_names) (ExceptionAs a.nodes at.roots at.names) (ExceptionAs b.nodes (new.new_roots ++ at.roots) new.new_names)
       b.nodes new.new_roots at.roots more F new.are_bound new.entries (later K own) (later_exception K own) K V env (E ch) (λ r sc h. (specified_reads K own h V reads, h.root.among)) own
@@ -146,3 +157,8 @@ declared_older at on new = refl
 pub declared_grows : {a b : Sight} {G : Letters} {env more : List Entry} {E : Choice → Environment} {F : Environment} (at : Outside as_declared a G env E) (on : OnlyTypes a b) (new : Declares a b at.roots at.names more F) → Grows at (outside_declared at on new) more F
 unfolding outside_declared
 declared_grows at on new = record { on = on; new_roots = new.new_roots; roots = refl; same = new.same; are_bound = new.are_bound; entries = new.entries }
+
+-- and all that is to be known of names is, where it was, and is of the new ones
+pub declared_known : {a b : Sight} {G : Letters} {env more : List Entry} {E : Choice → Environment} {F : Environment} (at : Outside as_declared a G env E) (on : OnlyTypes a b) (new : Declares a b at.roots at.names more F) → (outside_declared at on new).known ≡ (at.known && new.plain)
+unfolding outside_declared
+declared_known at on new = refl

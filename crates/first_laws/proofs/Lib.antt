@@ -1,5 +1,6 @@
 pub mod Renamed
 pub mod Specified
+pub mod Known
 pub mod Declared
 pub mod Grown
 pub mod Roots
@@ -10,4 +11,5 @@ pub mod Whole
 pub mod Exceptions
 pub mod Types
 pub mod Values
+pub mod Seen
 pub mod SettledItems

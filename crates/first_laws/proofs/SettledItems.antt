@@ -1,10 +1,11 @@
 -- What an item that declares something asks is carried where it is settled, from one state between items to a later one.
-use Rattle.std.proofs.Common.{◌≡◌, ◌∙◌, inl, inr, ℕ, ◌≤◌, List, [], ◌∷◌, ◌++◌, take, length, Option, None, refl, sym, ap, subst, arith}
+use Rattle.std.proofs.Common.{◌≡◌, ◌∙◌, inl, inr, ℕ, ◌≤◌, Bool, List, [], ◌∷◌, ◌++◌, take, length, Option, None, refl, sym, ap, subst, arith}
 use Rattle.type_model.specs.Types.{Typ}
 use Rattle.type_model.specs.Schemes.{Scheme}
 use Rattle.signature_model.specs.Declarations.{Name}
 use Rattle.signature_model.specs.Entries.{Environment}
 use Rattle.signature_model.specs.Matching.{IsKnown}
+use Rattle.typing_laws.proofs.Bools.{no_yes}
 use Rattle.typing_model.specs.Demands.{AllHold}
 use Rattle.typing_model.specs.Contexts.{Choice, Context, parameters}
 use Rattle.typing_model.specs.Parts.{Item}
@@ -20,7 +21,8 @@ use Rattle.typing_conditions.specs.Assumptions.{SchemeFits}
 use Rattle.typing_conditions.specs.Standing.{IsIn}
 use Rattle.typing_conditions.specs.Declared.{DeclaredAs, ExceptionAs}
 use Rattle.typing_conditions.specs.Sights.{Sight, Report, Letters, SameAt}
-use Rattle.typing_conditions.specs.Judging.{Judgement, judgements, Follows, FallsShort, AnySeen, Meets}
+use Rattle.typing_conditions.specs.Seeing.{StandsFor, IsSeen}
+use Rattle.typing_conditions.specs.Judging.{Judgement, judgements, Follows, FallsShort, AllSeen, AnySeen, Meets}
 use Rattle.typing_conditions.specs.Carrying.{Asks}
 use Rattle.typing_conditions.proofs.Adequate.{never_short}
 use Rattle.typing_conditions.proofs.Carried.{Decides}
@@ -33,9 +35,11 @@ use Rattle.typing_rows.specs.Around.{TypeAs, TypesAs}
 use Rattle.typing_rows.specs.Settled.{Fixes, AreFixed, IsBehind, among, Settled}
 use Rattle.typing_rows.proofs.Surrounding.{known_by, declared_known}
 use Rattle.binding_rows.specs.ItemRows.{AreDeclared, AreOwned, none_owned, leaves_none, leaves_types}
-use Rattle.binding_rows.specs.Outside.{AgreesOutside, InEachMet, Outside, Left, EntersItems, ContinuesItems, StaysOutside, ItemsCarried}
-use Rattle.first_laws.specs.Declaring.{OnlyTypes}
+use Rattle.binding_rows.specs.Outside.{AgreesOutside, InEachMet, Outside, Left, EntersItems, ContinuesItems, StaysOutside, ItemsCarried, SeesItems}
+use Rattle.binding_rows.proofs.ItemOrders.{outside_sees}
+use Rattle.first_laws.specs.Declaring.{OnlyTypes, IsScoped}
 use Rattle.first_laws.proofs.Declared.{agrees_before}
+use Rattle.first_laws.proofs.Seen.{seen_as}
 
 -- what an item leaves that declares something: the types that are decided
 abbrev pub types_left : ℕ → Fixes → Left
@@ -125,3 +129,22 @@ module _ {a b : Sight} {G : Letters} {env : List Entry} {E : Choice → Environm
     pub settled_owned : (m : Item) → ((c : Context) → AreDeclared (m.components c)) → AreOwned (m ∷ []) items_settled.left
     unfolding items_settled
     settled_owned m declared = leaves_types declared (leaves_none none_owned)
+
+    -- For each node that is treated in it the names in scope are seen, where they are recorded for it.
+    pub settled_sees : ((c : Context) → AllSeen (IsScoped b env c.env) (others c)) → SeesItems E others b G items_settled.left items_settled.judged
+    unfolding items_settled
+    settled_sees scoped V c l scopes types inside = seen_as (IsScoped b env c.env) (IsSeen scopes types V) each (others c) (scoped c)
+      where
+        stands : StandsFor V env c.env
+        stands = subst (StandsFor V env) (sym l.env) (outside_sees at V c.chosen (on.reads V l.reads) (agrees_before on l.agrees))
+
+        each : (k : ℕ) (F : Environment) (is_typed : Bool) → IsScoped b env c.env k F is_typed → IsSeen scopes types V k F is_typed
+        each k F is_typed h = record {
+          item = h.item;
+          place = h.place;
+          number = h.number;
+          env = env;
+          at = inside.names h.item h.place env h.at;
+          stands = subst (StandsFor V env) (sym h.same) stands;
+          typed = λ told. absurd (no_yes (sym h.untyped ∙ told));
+        }

@@ -47,7 +47,7 @@ chosen_is test s t v passes one (suc n) lt = by (chosen_is test s t v passes one
 
 -- where no unknown type stands in a type with names, none stands in the name of a variable of the type
 mutual
-  known_there : (N : Types) (v : ℕ) (t : Typ) → occurs v t ≡ true → IsKnown (apply N t) → IsKnown (N v)
+  pub known_there : (N : Types) (v : ℕ) (t : Typ) → occurs v t ≡ true → IsKnown (apply N t) → IsKnown (N v)
   known_there N v (type.Var w) o known = subst (λ u. IsKnown (N u)) (sym (eqb-true v w o)) known
   known_there N v (type.Arrow a b) o known = elim (or_cases (occurs v a) (occurs v b) o) [ inl i ↦ known_there N v a i known.0 | inr i ↦ known_there N v b i known.1 ]
   known_there N v (type.Tuple ts) o known = known_there_all N v ts o known

@@ -1,5 +1,5 @@
 -- After a type of its own is declared, with constructors or labels, the names are those of before with its own.
-use Rattle.std.proofs.Common.{◌≡◌, ◌∙◌, ℕ, ◌<◌, true, List, [], ◌∷◌, ◌++◌, length, Option, Some, sym, ap, subst}
+use Rattle.std.proofs.Common.{◌≡◌, ◌∙◌, ℕ, ◌<◌, true, false, List, [], ◌∷◌, ◌++◌, length, Option, Some, sym, ap, subst}
 use Rattle.std.specs.Prelude.{slice_get, option_map}
 use Rattle.text_terms.specs.Bytes.{str_bytes}
 use Rattle.type_terms.specs.Views.{path_of}
@@ -10,6 +10,7 @@ use Rattle.signature_model.specs.Declarations as rules
 use Rattle.signature_model.specs.Declarations.{parameters_from}
 use Rattle.signature_model.specs.Entries.{Environment}
 use Rattle.signature_model.specs.Records.{is_some}
+use Rattle.typing_laws.proofs.Bools.{no_yes}
 use Rattle.typing_model.specs.Contexts.{Choice}
 use Rattle.type_nodes.specs.Nodes.{Node, IsSound}
 use Rattle.type_nodes.specs.Readings.{Types}
@@ -78,3 +79,4 @@ module _ {a b : Sight} (c : Sight) {G : Letters} {env : List Entry} {E : Choice 
   outside_type d e alike more fs entries = outside_whole c at I own n n_inside none from x R denote closes plain sound level types more fs
       (env_map (λ (r : ℕ) (sc : Scheme). ⊥) (SpecifiedAs c.nodes (R ++ at.roots) N) (λ (d' : Declaration) (e' : rules.Declaration). (d' ≡ d) × (e' ≡ e)) (DeclaredAs c.nodes (R ++ at.roots) N) (λ (y : Constructor) (o : Option Typ). ⊥) (ExceptionAs c.nodes (R ++ at.roots) N)
       (λ r sc h. absurd h) (λ d' e' h. subst (λ q. DeclaredAs c.nodes (R ++ at.roots) N q e') (sym h.0) (subst (DeclaredAs c.nodes (R ++ at.roots) N d) (sym h.1) alike)) (λ y o h. absurd h) entries)
+      false (λ e'. absurd (no_yes e'))

@@ -1,10 +1,11 @@
 -- After a value is specified the names are those of before with its own.
-use Rattle.std.proofs.Common.{◌≡◌, ℕ, zero, ◌<◌, true, List, [], ◌∷◌, length, refl, sym, subst}
+use Rattle.std.proofs.Common.{◌≡◌, ℕ, zero, ◌<◌, true, false, List, [], ◌∷◌, length, refl, sym, subst}
 use Rattle.text_terms.specs.Bytes.{str_bytes}
 use Rattle.type_model.specs.Types.{Typ, occurs}
 use Rattle.signature_model.specs.Entries.{Environment, a_value}
 use Rattle.signature_model.specs.Entries.{Entry as Named, kind_of as kind_named}
 use Rattle.signature_model.specs.Matching.{IsKnown}
+use Rattle.typing_laws.proofs.Bools.{no_yes}
 use Rattle.typing_model.specs.Modules.{all_bound}
 use Rattle.typing_model.specs.Contexts.{Choice}
 use Rattle.type_nodes.specs.Nodes.{IsSound}
@@ -44,3 +45,4 @@ module _ {a b : Sight} (c : Sight) {G : Letters} {env : List Entry} {E : Choice 
       outside_whole c at I own n n_inside none from x (r ∷ []) (one_denotes x t denotes) closes plain sound level types (e ∷ []) (f ∷ [])
       (newest (entry_as name kind (subst (WhatAs (SpecifiedAs c.nodes (r ∷ at.roots) N) (DeclaredAs c.nodes (r ∷ at.roots) N) (ExceptionAs c.nodes (r ∷ at.roots) N) e.what) (sym stands)
       (of_value is (record { arity = arity; type = t; scheme = refl; known = known; root = subst (λ m. RootAs c.nodes (r ∷ at.roots) N arity m t) (sym root) root_as })))) no_names)
+      false (λ e. absurd (no_yes e))

@@ -1,11 +1,14 @@
 -- After a declaration as a whole, with its roots, the names are those of before with its own.
-use Rattle.std.proofs.Common.{◌≡◌, ◌∙◌, ℕ, zero, suc, ◌<◌, ◌≤◌, nat_lt, Bool, true, false, List, [], ◌∷◌, ◌++◌, length, Some, refl, sym, ap, subst, arith, if◌then◌else◌}
+use Rattle.std.proofs.Common.{◌≡◌, ◌∙◌, ℕ, zero, suc, ◌<◌, ◌≤◌, nat_lt, ◌&&◌, Bool, true, false, List, [], ◌∷◌, ◌++◌, length, Some, refl, sym, ap, subst, arith, if◌then◌else◌}
 use Rattle.std.specs.Prelude.{slice_get}
 use Rattle.std.proofs.lemmas.Option.{slice_get_within}
 use Rattle.type_model.specs.Types.{Path, Typ, occurs}
 use Rattle.type_model.specs.Types.{Typ as type, Typs as typs}
+use Rattle.type_model.specs.Substitutions.{apply}
 use Rattle.type_model.proofs.Applying.{apply_leaves}
 use Rattle.signature_model.specs.Entries.{Environment}
+use Rattle.signature_model.specs.Matching.{IsKnown}
+use Rattle.typing_laws.proofs.Bools.{no_yes}
 use Rattle.typing_model.specs.Contexts.{Choice}
 use Rattle.type_nodes.specs.Nodes.{IsSound}
 use Rattle.type_nodes.specs.Readings.{Types, IsReading}
@@ -14,7 +17,7 @@ use Rattle.env_table.specs.declared.entries.Entry.{Entry}
 use Rattle.typing_conditions.specs.Locals.{IsPlain, IsOwn, ClosesAll, stands_in_any}
 use Rattle.typing_conditions.specs.Standing.{IsIn}
 use Rattle.typing_conditions.specs.Environments.{EnvAs}
-use Rattle.typing_conditions.specs.Declared.{UnknownApart, RootAs, DeclaredAs, ExceptionAs}
+use Rattle.typing_conditions.specs.Declared.{UnknownApart, NoneUnknown, RootAs, DeclaredAs, ExceptionAs}
 use Rattle.typing_conditions.specs.Sights.{Sight, Letters}
 use Rattle.typing_conditions.specs.Frames.{Frame, IsOpen}
 use Rattle.typing_conditions.proofs.Regions.{any_in, in_any}
@@ -27,8 +30,9 @@ use Rattle.declared_rows.specs.Assignments.{IsAssigned, a_parameter, an_unknown,
 use Rattle.declared_rows.proofs.Made.{last_path}
 use Rattle.declared_rows.proofs.Closed.{root_closed, refines_declared, reads_declared}
 use Rattle.declared_rows.proofs.Starting.{declaring_frame, declaring}
-use Rattle.first_laws.specs.Declaring.{NoneTyped, OnlyTypes, AreBoundIn, SpecifiedAs, Declares, StartsAfter}
-use Rattle.first_laws.proofs.Declared.{outside_declared, declared_older, declared_grows}
+use Rattle.first_laws.specs.Declaring.{NoneTyped, OnlyTypes, AreBoundIn, SpecifiedAs, AddsKnown, Declares, StartsAfter}
+use Rattle.first_laws.proofs.Declared.{outside_declared, declared_older, declared_grows, declared_known}
+use Rattle.first_laws.proofs.Specified.{known_there}
 
 -- the names of the variables of a state, and further ones for those that are made
 abbrev pub further : ℕ → Types → Types → Types
@@ -73,6 +77,12 @@ pub record DenotesSome (F : Frame) (arity : ℕ) (U : List ℕ) (a b : Sight) (A
 pub one_denotes : {F : Frame} {arity : ℕ} {U : List ℕ} {a b : Sight} {A : Assignment} (x : Assigned F arity U a b A) {r : ℕ} (t : Typ) → Denotes x.after r t → (k s : ℕ) → slice_get (r ∷ []) k ≡ Some s → DenotesSome F arity U a b A x s
 one_denotes x {r} t denotes zero s e = let g : r ≡ s = cc in record { type = t; denotes = subst (λ m. Denotes x.after m t) g denotes }
 one_denotes x t denotes (suc k) s e = absurd (cc)
+
+-- which is that type
+pub one_type : {F : Frame} {arity : ℕ} {U : List ℕ} {a b : Sight} {A : Assignment} (x : Assigned F arity U a b A) {r : ℕ} (t : Typ) (denotes : Denotes x.after r t) (k s : ℕ) (e : slice_get (r ∷ []) k ≡ Some s) → (one_denotes x t denotes k s e).type ≡ t
+unfolding one_denotes
+one_type x t denotes zero s e = refl
+one_type x t denotes (suc k) s e = absurd (cc)
 
 -- A declaration over so many parameters: from the state a between items to b, the one before its variables are bound, and c, the one after; its roots R denote types,
 -- n is a node without variables, as that of the type of exceptions.
@@ -177,6 +187,19 @@ module _ {a b : Sight} (c : Sight) {G : Letters} {env : List Entry} {E : Choice 
           let y = made_unknown v (o ++ m ∷ []) i is in
           subst (IsIn U) (last_path y.front o y.number m (sym y.is)) y.listed
 
+  -- Where no unknown type stands in the types of the roots, no variable that is made has one as its name.
+  pub names_plain : ((k r : ℕ) (e : slice_get R k ≡ Some r) → IsKnown (denote k r e).type) → NoneUnknown at.names → NoneUnknown names
+  names_plain known none v o unknown e = by (nat_lt v (length a.nodes)) e
+    where
+      by : (i : Bool) → (if i then at.names v else only_at (stands_in_any own_after R) x.after.types v) ≡ type.Con o typs.Nil → ⊥
+      by true g = none v o unknown g
+      by false g =
+          let (i, is) = there_alone (stands_in_any own_after R) x.after.types v o g in
+          let y = in_any v own_after R i in
+          let d = denote y.place y.node y.at in
+          let root_known : IsKnown (apply x.after.types (own_after y.node)) = subst IsKnown (sym d.denotes.is ∙ own_b.comes x.after.types x.assigns.loose y.node) (known y.place y.node y.at) in
+          no_yes (sym (subst IsKnown is (known_there x.after.types v (own_after y.node) y.occurs root_known)).0 ∙ unknown)
+
   -- a root that denotes a type stands for it
   pub whole_root : {r : ℕ} {t : Typ} → IsIn R r → Denotes x.after r t → RootAs c.nodes (R ++ at.roots) names arity r t
   whole_root {r} i d = root_closed is_declaring x.assigns closes plain root_named i (in_first R at.roots r i) d
@@ -188,16 +211,26 @@ module _ {a b : Sight} (c : Sight) {G : Letters} {env : List Entry} {E : Choice 
   }
 
   -- The next item starts among the names of before and those of the declaration, which stand for entries of the definitions.
-  pub outside_whole : (more : List Entry) (fs : Environment) → EnvAs (SpecifiedAs c.nodes (R ++ at.roots) names) (DeclaredAs c.nodes (R ++ at.roots) names) (ExceptionAs c.nodes (R ++ at.roots) names) more fs → StartsAfter at c G more fs U
-  outside_whole more fs entries =
-      let declares : Declares a c at.roots at.names more fs = record {
-        new_roots = R;
-        new_names = names;
-        same = λ v lt. further_old (length a.nodes) at.names (only_at (stands_in_any own_after R) x.after.types) v lt;
-        apart = names_apart;
-        older = U;
-        unknown = names_of;
-        are_bound = whole_bound;
-        entries = entries;
-      } in
-      record { outside = outside_declared at whole_types declares; older = declared_older at whole_types declares; grows = declared_grows at whole_types declares }
+  module _ (more : List Entry) (fs : Environment) (entries : EnvAs (SpecifiedAs c.nodes (R ++ at.roots) names) (DeclaredAs c.nodes (R ++ at.roots) names) (ExceptionAs c.nodes (R ++ at.roots) names) more fs) (plain_too : Bool) (keeps : plain_too ≡ true → AddsKnown c.nodes (R ++ at.roots) at.names names more fs) where
+    whole_declares : Declares a c at.roots at.names more fs
+    whole_declares = record {
+      new_roots = R;
+      new_names = names;
+      same = λ v lt. further_old (length a.nodes) at.names (only_at (stands_in_any own_after R) x.after.types) v lt;
+      apart = names_apart;
+      older = U;
+      unknown = names_of;
+      are_bound = whole_bound;
+      entries = entries;
+      plain = plain_too;
+      keeps = keeps;
+    }
+
+    pub outside_whole : StartsAfter at c G more fs U
+    unfolding whole_declares
+    outside_whole = record { outside = outside_declared at whole_types whole_declares; older = declared_older at whole_types whole_declares; grows = declared_grows at whole_types whole_declares }
+
+    -- and all that is to be known of names is, where it was, and is of these
+    pub whole_known : outside_whole.outside.known ≡ (at.known && plain_too)
+    unfolding whole_declares outside_whole
+    whole_known = declared_known at whole_types whole_declares

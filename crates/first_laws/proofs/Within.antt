@@ -1,5 +1,5 @@
 -- Names that were added go out of scope again, as at the end of a signature: their roots stay, and the names of before are in scope, with others that stand for what these roots are.
-use Rattle.std.proofs.Common.{◌≡◌, ◌∙◌, ℕ, ◌<◌, List, [], ◌++◌, length, inl, inr, refl, sym, ap, subst, append_assoc, arith}
+use Rattle.std.proofs.Common.{◌≡◌, ◌∙◌, ℕ, ◌<◌, false, List, [], ◌++◌, length, inl, inr, refl, sym, ap, subst, append_assoc, arith}
 use Rattle.type_model.specs.Types.{occurs}
 use Rattle.signature_model.specs.Entries.{Environment}
 use Rattle.typing_laws.proofs.Bools.{no_yes}
@@ -123,7 +123,7 @@ unfolding outside_given
 outside_within {b = b} at to g given others F' entries =
     let now : EnvAs (SpecifiedAs b.nodes (g.new_roots ++ at.roots) to.names) (DeclaredAs b.nodes (g.new_roots ++ at.roots) to.names) (ExceptionAs b.nodes (g.new_roots ++ at.roots) to.names) others F' =
     subst (λ C. EnvAs (SpecifiedAs b.nodes C to.names) (DeclaredAs b.nodes C to.names) (ExceptionAs b.nodes C to.names) others F') g.roots entries in
-    let declares : Declares _ b at.roots at.names others F' = record { new_roots = g.new_roots; new_names = to.names; same = g.same; apart = to.apart; older = to.older; unknown = to.unknown; are_bound = g.are_bound; entries = now } in
+    let declares : Declares _ b at.roots at.names others F' = record { new_roots = g.new_roots; new_names = to.names; same = g.same; apart = to.apart; older = to.older; unknown = to.unknown; are_bound = g.are_bound; entries = now; plain = false; keeps = λ e. absurd (no_yes e) } in
     record {
       outside = outside_given given (outside_declared at g.on declares);
       older = declared_older at g.on declares;

@@ -1,5 +1,5 @@
 -- What is declared from one state between items to a later one: types with their constructors and labels, exceptions, and values that are specified.
-use Rattle.std.specs.Prelude.{◌≡◌, ℕ, ◌<◌, true, List, ◌++◌, length, slice_get, Some}
+use Rattle.std.specs.Prelude.{◌≡◌, ℕ, ◌<◌, Bool, true, false, List, ◌++◌, length, slice_get, Some}
 use Rattle.type_model.specs.Types.{Typ}
 use Rattle.type_model.specs.Schemes.{Scheme}
 use Rattle.signature_model.specs.Entries.{Environment}
@@ -11,8 +11,9 @@ use Rattle.type_nodes.specs.Readings.{Types, IsReading}
 use Rattle.env_table.specs.declared.entries.Entry.{Entry}
 use Rattle.typing_conditions.specs.Locals.{IsOwn, stands_in_any, Refines}
 use Rattle.typing_conditions.specs.Environments.{EnvAs}
-use Rattle.typing_conditions.specs.Declared.{UnknownApart, RootAs, DeclaredAs, ExceptionAs}
-use Rattle.typing_conditions.specs.Sights.{AreScopesIn, Sight, Letters}
+use Rattle.typing_conditions.specs.Declared.{UnknownApart, NoneUnknown, RootAs, DeclaredAs, ExceptionAs}
+use Rattle.typing_conditions.specs.Surroundings.{HasOwnLabels}
+use Rattle.typing_conditions.specs.Sights.{AreScopesIn, Sight, Letters, number_in}
 use Rattle.typing_steps.specs.Typing.{as_declared}
 use Rattle.binding_rows.specs.Outside.{AreOf, Outside}
 
@@ -45,8 +46,13 @@ pub record SpecifiedAs (nodes : List Node) (C : List ℕ) (N : Types) (r : ℕ) 
   pub known : IsKnown type
   pub root : RootAs nodes C N arity r type
 
+-- All that is to be known of names is known of these too, where it is of the old ones: no variable has an unknown type as its name, and each type with labels is a type of its own.
+pub record AddsKnown (nodes : List Node) (C : List ℕ) (old new : Types) (more : List Entry) (E : Environment) : Type 0 where
+  pub plain : NoneUnknown old → NoneUnknown new
+  pub entries : EnvAs (SpecifiedAs nodes C new) (λ d e. DeclaredAs nodes C new d e × HasOwnLabels e) (ExceptionAs nodes C new) more E
+
 -- Entries of the code are those of the definitions, each value among them a specified one: there are further roots, in which all variables are bound, and names for these. The unknown types
--- among all names are those of the type expressions `older`.
+-- among all names are those of the type expressions `older`. `plain`: whether all that is to be known of these names is.
 pub record Declares (a b : Sight) (roots : List ℕ) (names : Types) (more : List Entry) (E : Environment) : Type 0 where
   pub new_roots : List ℕ
   pub new_names : Types
@@ -56,6 +62,8 @@ pub record Declares (a b : Sight) (roots : List ℕ) (names : Types) (more : Lis
   pub unknown : AreOf older new_names
   pub are_bound : AreBoundIn b.nodes new_roots
   pub entries : EnvAs (SpecifiedAs b.nodes (new_roots ++ roots) new_names) (DeclaredAs b.nodes (new_roots ++ roots) new_names) (ExceptionAs b.nodes (new_roots ++ roots) new_names) more E
+  pub plain : Bool
+  pub keeps : plain ≡ true → AddsKnown b.nodes (new_roots ++ roots) names new_names more E
 
 -- the next item starts among these names, where the unknown types among them are those of the type expressions U
 pub record StartsAmong (c : Sight) (G : Letters) (env : List Entry) (E : Choice → Environment) (U : List ℕ) : Type 0 where
@@ -76,3 +84,12 @@ pub record StartsAfter {a : Sight} {G : Letters} {env : List Entry} {E : Choice 
   pub outside : Outside as_declared c H (more ++ env) (λ ch. F ++ E ch)
   pub older : outside.older ≡ U
   pub grows : Grows at outside more F
+
+-- For a node without a type the names `env` in scope are recorded, where it is treated among those of the environment E.
+pub record IsScoped (b : Sight) (env : List Entry) (E : Environment) (n : ℕ) (F : Environment) (is_typed : Bool) : Type 0 where
+  pub item : ℕ
+  pub place : ℕ
+  pub number : n ≡ number_in item place
+  pub at : b.scopes item place ≡ Some env
+  pub same : F ≡ E
+  pub untyped : is_typed ≡ false

@@ -4,13 +4,15 @@ use Rattle.tree_model.specs.Trees.{inner}
 use Rattle.std.specs.Prelude.{Result, Ok, Err, OnOk}
 use Rattle.std.proofs.lemmas.List.{drop_more, drop_all}
 use denote.Ref.{Bor}
+use Rattle.std.specs.declared.rc.Rc.{Rc}
+use Rattle.std.specs.declared.alloc.Global.{Global}
 use Rattle.signature_model.specs.Declarations.{Name}
 use Rattle.typing_model.specs.Parts.{no_names}
 use Rattle.syntax_tree.specs.declared.rows.RowName.TheVariants as name
 use Rattle.syntax_tree.specs.declared.tree.Node.{Node, out-Node}
 use Rattle.syntax_tree.specs.View.{node_view, place_of}
 use Rattle.row_parts.specs.declared.slots.Operand.{Operand}
-use Rattle.row_parts.specs.Numbered.{Numbered, numbered, part_of, operand_view}
+use Rattle.row_parts.specs.Numbered.{Numbered, numbered, first_in, part_of, operand_view}
 use Rattle.env_table.specs.declared.entries.Entry.{Entry}
 use Rattle.env_table.specs.declared.entries.Kind.{Kind}
 use Rattle.env_table.specs.declared.entries.Kind.TheVariants as kind
@@ -20,21 +22,23 @@ use Rattle.typing_state.specs.Notes.{NotedNameless}
 use Rattle.typing_steps.specs.States.{is_aloud}
 use Rattle.typing_steps.specs.Typing.{as_declared}
 use Rattle.typing_steps.proofs.Starting.{constants_kept}
-use Rattle.core_typing.specs.Items.{IsCarriedPart, IsCarriedItemOperand, IsItemNode, IsExceptionNode, ItemsDone, GivesLet, GivesException, item_at, items_at}
-use Rattle.core_typing.proofs.ItemLaws.{done_none, done_then, let_done, idle_given, exception_done, plain_scope, noted_between, noted_on, weaker}
+use Rattle.core_typing.specs.Items.{IsCarriedPart, IsCarriedItemOperand, IsItemNode, IsExceptionNode, ItemsDone, GivesLet, item_at, items_at}
+use Rattle.core_typing.proofs.ItemLaws.{done_none, done_then, let_done, idle_given, plain_scope, noted_between, noted_on, weaker}
+use Rattle.env_table.specs.Views.{newest_first}
+use Rattle.sig_template.specs.Structures.{entries_of}
 use Rattle.module_steps.specs.declared.scenes.Scene.{Scene}
 use Rattle.module_steps.specs.Scenes.{has_name, SameNames}
-use Rattle.signature_typing.specs.Specifications.{IsGiven}
+use Rattle.signature_typing.specs.Specifications.{GivesException, IsGiven}
 use Rattle.signature_typing.proofs.NodeRows.{row_there, only_exception}
-use Rattle.signature_typing.proofs.SpecificationSteps.{seen_same, there}
+use Rattle.signature_typing.proofs.SpecificationSteps.{seen_same, there, exception_done}
 use Rattle.module_typing.proofs.NodeRows.{only_let, only_break, break_there}
-use Rattle.module_typing.specs.Items.{GivesItem, GivesItems, NamesNone, KeepsKnown, GivesFirst, GivesItemsFirst}
+use Rattle.module_typing.specs.Items.{GivesItem, GivesItems, Grows, AddsValues, NamesNone, TakesNonePart, TakesNone, KeepsKnown, GivesFirst, GivesItemsFirst}
 
 -- what is missing is noted, and nothing else is done
 pub missing_given : {A F : Type 0} (r : Result A F) (a b : Parts) (s : Scene) (x : Operand) → x.node ≡ None → OnOk r (NotedNameless a b x.number s.env None) → OnlyIndex a b → Goes a b → OnOk r (GivesItem a b s s (operand_view x))
 missing_given (Err e) a b s x none noted rest goes = tt
 missing_given (Ok v) a b s x none noted rest goes = λ G E seen carried aloud at constants older standing.
-    subst (λ p. IsGiven ((at.known ≡ true) × KeepsKnown p) E (item_at a.item (numbered x.number (place_of x.span) p)) seen a b G s) (sym (ap (λ o. part_of o x.span) none)) (record {
+    subst (λ p. IsGiven ((at.known ≡ true) × KeepsKnown x.number p) E (item_at a.item (numbered x.number (place_of x.span) p)) seen a b G s) (sym (ap (λ o. part_of o x.span) none)) (record {
       names = seen;
       done = done_none seen (noted_between a b x.number s.env noted rest) at (constants_kept a b goes constants) (noted_on at.older older goes) (λ k. k.0);
       standing = standing;
@@ -44,7 +48,7 @@ missing_given (Ok v) a b s x none noted rest goes = λ G E seen carried aloud at
 pub break_given : {A F : Type 0} (r : Result A F) (a b : Parts) (s : Scene) (x : Operand) (nd : Bor Node) → x.node ≡ Some nd → (out-Node nd.now).row ≡ name.Break → OnOk r (NotedNameless a b x.number s.env None) → OnlyIndex a b → Goes a b → OnOk r (GivesItem a b s s (operand_view x))
 break_given (Err e) a b s x nd some row noted rest goes = tt
 break_given (Ok v) a b s x nd some row noted rest goes = λ G E seen carried aloud at constants older standing.
-    subst (λ p. IsGiven ((at.known ≡ true) × KeepsKnown p) E (item_at a.item (numbered x.number (place_of x.span) p)) seen a b G s) (sym (there x nd some)) (record {
+    subst (λ p. IsGiven ((at.known ≡ true) × KeepsKnown x.number p) E (item_at a.item (numbered x.number (place_of x.span) p)) seen a b G s) (sym (there x nd some)) (record {
       names = seen;
       done = idle_given a b s.env x.number (place_of x.span) (node_view nd.now) G E seen (break_there nd.now row) (plain_scope a b x.number s.env aloud noted) (noted_between a b x.number s.env noted rest) at (constants_kept a b goes constants) (noted_on at.older older goes) (λ k. k.0);
       standing = standing;
@@ -54,7 +58,7 @@ break_given (Ok v) a b s x nd some row noted rest goes = λ G E seen carried alo
 pub let_item_given : {A F : Type 0} (r : Result A F) (a b : Parts) (s s' : Scene) (x : Operand) (nd : Bor Node) → x.node ≡ Some nd → (out-Node nd.now).row ≡ name.Let → OnOk r (GivesLet a b s.env s'.env x.number (node_view nd.now)) → SameNames s s' → OnOk r (GivesItem a b s s' (operand_view x))
 let_item_given (Err e) a b s s' x nd some row gives same = tt
 let_item_given (Ok v) a b s s' x nd some row gives same = λ G E seen carried aloud at constants older standing.
-    subst (λ p. IsGiven ((at.known ≡ true) × KeepsKnown p) E (item_at a.item (numbered x.number (place_of x.span) p)) seen a b G s') (sym (there x nd some)) (record {
+    subst (λ p. IsGiven ((at.known ≡ true) × KeepsKnown x.number p) E (item_at a.item (numbered x.number (place_of x.span) p)) seen a b G s') (sym (there x nd some)) (record {
       names = seen;
       done = weaker (λ k. k.0) (let_done a b s.env s'.env x.number (place_of x.span) (node_view nd.now) G E seen (is_let carried) aloud at constants older gives);
       standing = seen_same same standing;
@@ -73,15 +77,16 @@ let_item_given (Ok v) a b s s' x nd some row gives same = λ G E seen carried al
 pub exception_given : {A F : Type 0} (r : Result A F) (a b : Parts) (s s' : Scene) (x : Operand) (nd : Bor Node) → x.node ≡ Some nd → (out-Node nd.now).row ≡ name.Exception → OnOk r (GivesException a b s.env s'.env x.number (node_view nd.now)) → SameNames s s' → OnOk r (GivesItem a b s s' (operand_view x))
 exception_given (Err e) a b s s' x nd some row gives same = tt
 exception_given (Ok v) a b s s' x nd some row gives same = λ G E seen carried aloud at constants older standing.
-    subst (λ p. IsGiven ((at.known ≡ true) × KeepsKnown p) E (item_at a.item (numbered x.number (place_of x.span) p)) seen a b G s') (sym (there x nd some)) (record {
+    subst (λ p. IsGiven ((at.known ≡ true) × KeepsKnown x.number p) E (item_at a.item (numbered x.number (place_of x.span) p)) seen a b G s') (sym (there x nd some)) (record {
       names = seen;
-      done = weaker none_kept (exception_done a b s.env s'.env x.number (place_of x.span) (node_view nd.now) G E seen (is_exception carried) aloud at constants older gives);
+      done = weaker (λ k. (k.0, takes_none (is_exception carried) k.1)) (exception_done a b s.env s'.env x.number (place_of x.span) (node_view nd.now) G E seen (is_exception carried) aloud at constants older gives);
       standing = seen_same same standing;
     })
   where
-    none_kept : {K : Type 0} → K × KeepsKnown (inner (node_view nd.now)) → ⊥
-    none_kept (k, inl let_is) = absurd (let b : name.Exception ≡ name.Let = sym row ∙ only_let (out-Node nd.now).row (sym (row_there nd.now) ∙ let_is) in cc)
-    none_kept (k, inr break_is) = absurd (let b : name.Exception ≡ name.Break = sym row ∙ only_break (out-Node nd.now).row (sym (row_there nd.now) ∙ break_is) in cc)
+    takes_none : (e : IsExceptionNode x.number (node_view nd.now)) → KeepsKnown x.number (inner (node_view nd.now)) → first_in e.operand.number e.constructor 2 ≡ None
+    takes_none e (inl let_is) = absurd (let b : name.Exception ≡ name.Let = sym row ∙ only_let (out-Node nd.now).row (sym (row_there nd.now) ∙ let_is) in cc)
+    takes_none e (inr (inl break_is)) = absurd (let b : name.Exception ≡ name.Break = sym row ∙ only_break (out-Node nd.now).row (sym (row_there nd.now) ∙ break_is) in cc)
+    takes_none e (inr (inr (is, none))) = subst (TakesNonePart e.operand.number) e.part (subst TakesNone e.there none)
 
     is_exception : IsCarriedItemOperand (operand_view x) → IsExceptionNode x.number (node_view nd.now)
     is_exception carried = elim (subst (IsCarriedPart x.number) (there x nd some) carried) [
@@ -112,6 +117,27 @@ other_names s s' x nd some no_let no_break no_exception none = absurd (elim (sub
     | inr thrown ↦ no_exception (only_exception (out-Node nd.now).row (sym (row_there nd.now) ∙ thrown))
   ]
 ])
+
+-- a `let` adds its names to those before it
+pub let_grows : {A F : Type 0} (r : Result A F) (s s' : Scene) (env : List Entry) (es fs : List (Rc Entry Global)) → env ≡ newest_first es ++ s.env → fs ≡ es → OnOk r (s'.env ≡ env) → OnOk r (entries_of s'.components.items ≡ entries_of s.components.items ++ entries_of fs) → OnOk r (Grows s s')
+let_grows (Err e) s s' env es fs grows same names components = tt
+let_grows (Ok v) s s' env es fs grows same names components = record { entries = entries_of es; names = names ∙ grows; components = components ∙ ap (λ ns. entries_of s.components.items ++ entries_of ns) same }
+
+-- and where all stays, nothing is added
+pub none_grows : (s : Scene) → Grows s s
+none_grows s = record { entries = []; names = refl; components = sym (append-nil (entries_of s.components.items)) }
+
+-- an item that may add anything is no `let` and no `;;`
+pub other_grows : {P : Type 0} (x : Operand) (nd : Bor Node) → x.node ≡ Some nd → ((out-Node nd.now).row ≡ name.Let → ⊥) → ((out-Node nd.now).row ≡ name.Break → ⊥) → AddsValues (operand_view x).part → P
+other_grows x nd some no_let no_break keeps = absurd (elim (subst AddsValues (there x nd some) keeps) [
+  | inl let_is ↦ no_let (only_let (out-Node nd.now).row (sym (row_there nd.now) ∙ let_is))
+  | inr break_is ↦ no_break (only_break (out-Node nd.now).row (sym (row_there nd.now) ∙ break_is))
+])
+
+-- what holds holds where a call succeeds
+pub on_any : {A F P : Type 0} (r : Result A F) → P → OnOk r P
+on_any (Ok v) h = h
+on_any (Err e) h = tt
 
 -- before the first item of a structure
 pub items_start : (a : Parts) (env : List Entry) (s : Scene) (all : List Numbered) → s.env ≡ env → ((k : Kind) (n : Name) → has_name s k n ≡ false) → GivesItemsFirst a a env s all all

@@ -4,6 +4,7 @@ ghost use Rattle.syntax_tree.specs.View.{node_view};
 ghost use Rattle.typing_state.specs.Goes.{Goes};
 ghost use Rattle.core_typing.specs.Items.{GivesLet};
 ghost use Rattle.module_steps.specs.Scenes.{SameNames};
+ghost use Rattle.module_typing.specs.Items.{Grows};
 
 use core_typing::type_bindings;
 use module_steps::Scene;
@@ -20,6 +21,7 @@ pub fn let_item(
 ) -> Result<(), NoMemory>
     ensures carries { OnOk result (GivesLet at.old at.new scene.old.env scene.new.env number (node_view node.now)) }
     ensures names { SameNames scene.old scene.new }
+    ensures grows { OnOk result (Grows scene.old scene.new) }
     ensures goes { Goes at.old at.new }
 {
     at.note_plain(number, &scene.env)?;

@@ -4,7 +4,7 @@ ghost use Rattle.row_parts.specs.Numbered.{operand_view};
 ghost use Rattle.typing_state.specs.Goes.{Goes};
 ghost use Rattle.module_steps.specs.Scenes.{SameNames};
 ghost use Rattle.signature_typing.specs.Specifications.{GivesSpecification};
-ghost use Rattle.module_typing.specs.Items.{GivesItem, GivesItems, NamesNone};
+ghost use Rattle.module_typing.specs.Items.{AddsValues, GivesItem, GivesItems, Grows, NamesNone};
 
 use crate::items::let_item;
 use env_table::{Entry, Kind, What};
@@ -54,6 +54,7 @@ pub fn type_item(
     ensures carries { OnOk result (GivesItem at.old at.new scene.old scene.new (operand_view item.entry)) }
     ensures specifies { OnOk result (GivesSpecification at.old at.new scene.old scene.new (operand_view item.entry)) }
     ensures names { NamesNone (operand_view item.entry).part → SameNames scene.old scene.new }
+    ensures grows { AddsValues (operand_view item.entry).part → OnOk result (Grows scene.old scene.new) }
     ensures goes { Goes at.old at.new }
 {
     let Some(node) = item.node else {

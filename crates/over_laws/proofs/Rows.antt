@@ -1,30 +1,35 @@
--- What each row tells, where its parts tell environments with values in front.
+-- What each row tells, where its parts tell environments with values and exceptions in front.
 use Rattle.std.proofs.Common.{ℕ, ◌==◌, Bool, true, false, List, [], ◌∷◌, ◌++◌, map, filter_map, Option, Some, None, if◌then◌else◌}
 use Rattle.std.specs.List.{cons_option}
 use Rattle.tree_model.specs.Trees.{Place, place}
 use Rattle.tree_model.specs.Rows.{Row, tvar_row, tcon_row, tparen_row, tapp_row, ttuple_row, tarrow_row, pname_row, pany_row, pconst_row, pneg_row, pcon_row, pparen_row, plist_row, precord_row, papp_row, pcons_row, ptuple_row, por_row, pas_row, name_row, econ_row, epath_row, econst_row, hole_row, eparen_row, ebegin_row, elist_row, erecord_row, prefix_row, field_row, eapp_row, eassert_row, ewhile_row, efor_row, eneg_row, infix_row, econs_row, etuple_row, eset_row, eif_row, eseq_row, elet_row, ematch_row, etry_row, efun_row, efunction_row}
-use Rattle.signature_model.specs.Entries.{Environment}
-use Rattle.typing_model.specs.Parts.{Expression, Pattern, TypeExpression, Child, in_slot, path_in, token_in, expressions_in, expression_in, patterns_in, pattern_in, types_in, type_in, first_of, no_expression_at, no_pattern_at, no_type_at}
+use Rattle.typing_model.specs.Parts.{Expression, Pattern, TypeExpression, ConstructorPart, Child, in_slot, path_in, token_in, expressions_in, expression_in, patterns_in, pattern_in, types_in, type_in, first_of, no_expression_at, no_pattern_at, no_type_at}
+use Rattle.typing_model.specs.Names.{then_by}
 use Rattle.typing_model.specs.Patterns.{pattern_row}
 use Rattle.typing_model.specs.TypeExpressions as types
 use Rattle.typing_model.specs.Expressions.{expression_row, cases_in, fields_in, bindings_in, is_some, update_expression, record_expression}
 use Rattle.typing_laws.proofs.Steady.{Each, no_one, one_and, each_append, IfThere, absent, there}
-use Rattle.over_laws.proofs.Told.{nothing_told}
+use Rattle.over_laws.proofs.Told.{Around, nothing_told}
 use Rattle.over_laws.proofs.Types.{ToldType, no_type_told, tvar_told, tcon_told, tapp_told, tparen_told, ttuple_told, tarrow_told}
 use Rattle.over_laws.proofs.Patterns.{ToldPattern, ToldFieldPattern, no_pattern_told, pname_told, pconst_told, pneg_told, pcon_told, papp_told, pparen_told, plist_told, pcons_told, ptuple_told, pas_told, por_told, precord_told}
 use Rattle.over_laws.proofs.Expressions.{ToldExpression, no_expression_told, name_told, econ_told, path_told, econst_told, hole_told, eparen_told, ebegin_told, elist_told, econs_told, etuple_told, eapp_told, infix_told, prefix_told, eneg_told, field_told, eset_told, eassert_told, eif_told, eseq_told, ewhile_told, efor_told}
 use Rattle.over_laws.proofs.Records.{ToldField, ToldCase, erecord_told, eupdate_told, ematch_told, etry_told, efunction_told, efun_told}
 use Rattle.over_laws.proofs.Bindings.{ToldBinding, elet_told}
 
--- a part of a row, as each sort that stands in a `let`, tells environments with values in front where it stands in one
-pub record ToldChild (env : Environment) (x : Child) : Type 0 where
-  pub expression : ToldExpression env x.expression
-  pub pattern : ToldPattern env x.pattern
-  pub type_expression : ToldType env x.type_expression
-  pub binding : IfThere (ToldBinding env) x.binding
-  pub case : IfThere (ToldCase env) x.case
-  pub field : IfThere (ToldField env) x.field
-  pub field_pattern : IfThere (ToldFieldPattern env) x.field_pattern
+-- the argument of a constructor
+pub record ToldConstructor (w : Around) (k : ConstructorPart) : Type 0 where
+  pub argument : IfThere (ToldType w) k.argument
+
+-- a part of a row, as each sort that stands in a `let` or an exception, tells environments with values and exceptions in front where it stands in one
+pub record ToldChild (w : Around) (x : Child) : Type 0 where
+  pub expression : ToldExpression w x.expression
+  pub pattern : ToldPattern w x.pattern
+  pub type_expression : ToldType w x.type_expression
+  pub binding : IfThere (ToldBinding w) x.binding
+  pub case : IfThere (ToldCase w) x.case
+  pub field : IfThere (ToldField w) x.field
+  pub field_pattern : IfThere (ToldFieldPattern w) x.field_pattern
+  pub constructor : IfThere (ToldConstructor w) x.constructor
 
 -- the parts of a slot, in order
 each_slot : {P : Child → Type 0} {X : Type 0} (Q : X → Type 0) (f : Child → X) → ((c : Child) → P c → Q (f c)) → (s : ℕ) {cs : List Child} → Each P cs → Each Q (map f (in_slot s cs))
@@ -53,59 +58,69 @@ first_told : {X : Type 0} {Q : X → Type 0} (xs : List X) → Each Q xs → IfT
 first_told [] no_one = absent
 first_told (x ∷ xs) (one_and q rest) = there q
 
+-- the first constructor of a slot
+pub first_constructor : {w : Around} (s : ℕ) (cs : List Child) → Each (ToldChild w) cs → IfThere (ToldConstructor w) (then_by (first_of (in_slot s cs)) (λ k. k.constructor))
+first_constructor s [] no_one = absent
+first_constructor {w} s (c ∷ cs) (one_and one rest) = by (first_constructor s cs rest) (c.slot == s)
+  where
+    by : IfThere (ToldConstructor w) (then_by (first_of (in_slot s cs)) (λ k. k.constructor)) → (b : Bool) →
+        IfThere (ToldConstructor w) (then_by (first_of (if b then c ∷ in_slot s cs else in_slot s cs)) (λ k. k.constructor))
+    by others true = one.constructor
+    by others false = others
+
 -- the parts of a row at a node n
-module _ {env : Environment} (n : ℕ) {cs : List Child} (h : Each (ToldChild env) cs) where
-  pub expressions_slot : (s : ℕ) → Each (ToldExpression env) (expressions_in s cs)
-  expressions_slot s = each_slot (ToldExpression env) (λ c. c.expression) (λ c k. k.expression) s h
+module _ {w : Around} (n : ℕ) {cs : List Child} (h : Each (ToldChild w) cs) where
+  pub expressions_slot : (s : ℕ) → Each (ToldExpression w) (expressions_in s cs)
+  expressions_slot s = each_slot (ToldExpression w) (λ c. c.expression) (λ c k. k.expression) s h
 
-  pub patterns_slot : (s : ℕ) → Each (ToldPattern env) (patterns_in s cs)
-  patterns_slot s = each_slot (ToldPattern env) (λ c. c.pattern) (λ c k. k.pattern) s h
+  pub patterns_slot : (s : ℕ) → Each (ToldPattern w) (patterns_in s cs)
+  patterns_slot s = each_slot (ToldPattern w) (λ c. c.pattern) (λ c k. k.pattern) s h
 
-  pub types_slot : (s : ℕ) → Each (ToldType env) (types_in s cs)
-  types_slot s = each_slot (ToldType env) (λ c. c.type_expression) (λ c k. k.type_expression) s h
+  pub types_slot : (s : ℕ) → Each (ToldType w) (types_in s cs)
+  types_slot s = each_slot (ToldType w) (λ c. c.type_expression) (λ c k. k.type_expression) s h
 
-  pub bindings_slot : (s : ℕ) → Each (ToldBinding env) (bindings_in s cs)
-  bindings_slot s = each_kind (ToldBinding env) (λ c. c.binding) (λ c k. k.binding) s h
+  pub bindings_slot : (s : ℕ) → Each (ToldBinding w) (bindings_in s cs)
+  bindings_slot s = each_kind (ToldBinding w) (λ c. c.binding) (λ c k. k.binding) s h
 
-  cases_slot : (s : ℕ) → Each (ToldCase env) (cases_in s cs)
-  cases_slot s = each_kind (ToldCase env) (λ c. c.case) (λ c k. k.case) s h
+  cases_slot : (s : ℕ) → Each (ToldCase w) (cases_in s cs)
+  cases_slot s = each_kind (ToldCase w) (λ c. c.case) (λ c k. k.case) s h
 
-  fields_slot : (s : ℕ) → Each (ToldField env) (fields_in s cs)
-  fields_slot s = each_kind (ToldField env) (λ c. c.field) (λ c k. k.field) s h
+  fields_slot : (s : ℕ) → Each (ToldField w) (fields_in s cs)
+  fields_slot s = each_kind (ToldField w) (λ c. c.field) (λ c k. k.field) s h
 
   -- the first of a slot
-  pub first_expression : (s : ℕ) → IfThere (ToldExpression env) (first_of (expressions_in s cs))
+  pub first_expression : (s : ℕ) → IfThere (ToldExpression w) (first_of (expressions_in s cs))
   first_expression s = first_told (expressions_in s cs) (expressions_slot s)
 
-  pub one_expression_slot : (s : ℕ) → ToldExpression env (expression_in s cs)
+  pub one_expression_slot : (s : ℕ) → ToldExpression w (expression_in s cs)
   one_expression_slot s = by (first_of (expressions_in s cs)) (first_expression s)
     where
-      by : (o : Option Expression) → IfThere (ToldExpression env) o → ToldExpression env (elim o [ None ↦ no_expression_at 0 (place 0 0) | Some e ↦ e ])
+      by : (o : Option Expression) → IfThere (ToldExpression w) o → ToldExpression w (elim o [ None ↦ no_expression_at 0 (place 0 0) | Some e ↦ e ])
       by None absent = no_expression_told 0 (place 0 0)
       by (Some e) (there q) = q
 
-  pub first_pattern : (s : ℕ) → IfThere (ToldPattern env) (first_of (patterns_in s cs))
+  pub first_pattern : (s : ℕ) → IfThere (ToldPattern w) (first_of (patterns_in s cs))
   first_pattern s = first_told (patterns_in s cs) (patterns_slot s)
 
-  pub one_pattern_slot : (s : ℕ) → ToldPattern env (pattern_in s cs)
+  pub one_pattern_slot : (s : ℕ) → ToldPattern w (pattern_in s cs)
   one_pattern_slot s = by (first_of (patterns_in s cs)) (first_pattern s)
     where
-      by : (o : Option Pattern) → IfThere (ToldPattern env) o → ToldPattern env (elim o [ None ↦ no_pattern_at 0 (place 0 0) | Some p ↦ p ])
+      by : (o : Option Pattern) → IfThere (ToldPattern w) o → ToldPattern w (elim o [ None ↦ no_pattern_at 0 (place 0 0) | Some p ↦ p ])
       by None absent = no_pattern_told 0 (place 0 0)
       by (Some p) (there q) = q
 
-  pub first_type_slot : (s : ℕ) → IfThere (ToldType env) (first_of (types_in s cs))
+  pub first_type_slot : (s : ℕ) → IfThere (ToldType w) (first_of (types_in s cs))
   first_type_slot s = first_told (types_in s cs) (types_slot s)
 
-  one_type_slot : (s : ℕ) → ToldType env (type_in s cs)
+  one_type_slot : (s : ℕ) → ToldType w (type_in s cs)
   one_type_slot s = by (first_of (types_in s cs)) (first_type_slot s)
     where
-      by : (o : Option TypeExpression) → IfThere (ToldType env) o → ToldType env (elim o [ None ↦ no_type_at 0 (place 0 0) | Some t ↦ t ])
+      by : (o : Option TypeExpression) → IfThere (ToldType w) o → ToldType w (elim o [ None ↦ no_type_at 0 (place 0 0) | Some t ↦ t ])
       by None absent = no_type_told 0 (place 0 0)
       by (Some t) (there q) = q
 
   -- an expression by its row
-  pub expression_row_told : (r : Row) (q : Place) → ToldExpression env (expression_row r n q cs)
+  pub expression_row_told : (r : Row) (q : Place) → ToldExpression w (expression_row r n q cs)
   unfolding expression_row
   expression_row_told name_row q = name_told n q (path_in 9 0 cs)
   expression_row_told econ_row q = econ_told n q (path_in 9 0 cs)
@@ -117,7 +132,7 @@ module _ {env : Environment} (n : ℕ) {cs : List Child} (h : Each (ToldChild en
   expression_row_told elist_row q = elist_told n q (expressions_in 1 cs) (expressions_slot 1)
   expression_row_told erecord_row q = by (is_some (token_in 4 cs))
     where
-      by : (b : Bool) → ToldExpression env (if b then update_expression n q (expression_in 1 cs) (fields_in 5 cs) else record_expression n q (expression_in 1 cs) (first_of (expressions_in 3 cs)) (fields_in 5 cs))
+      by : (b : Bool) → ToldExpression w (if b then update_expression n q (expression_in 1 cs) (fields_in 5 cs) else record_expression n q (expression_in 1 cs) (first_of (expressions_in 3 cs)) (fields_in 5 cs))
       by true = eupdate_told n q (expression_in 1 cs) (fields_in 5 cs) (one_expression_slot 1) (fields_slot 5)
       by false = erecord_told n q (expression_in 1 cs) (first_of (expressions_in 3 cs)) (fields_in 5 cs) (one_expression_slot 1) (first_expression 3) (fields_slot 5)
   expression_row_told prefix_row q = prefix_told n q (token_in 0 cs) (expression_in 1 cs) (one_expression_slot 1)
@@ -141,7 +156,7 @@ module _ {env : Environment} (n : ℕ) {cs : List Child} (h : Each (ToldChild en
   expression_row_told _ q = no_expression_told n q
 
   -- a pattern by its row
-  pub pattern_row_told : (r : Row) (q : Place) → ToldPattern env (pattern_row r n q cs)
+  pub pattern_row_told : (r : Row) (q : Place) → ToldPattern w (pattern_row r n q cs)
   unfolding pattern_row
   pattern_row_told pname_row q = pname_told n q (token_in 0 cs)
   pattern_row_told pany_row q = record { matches = λ c seen o. nothing_told }
@@ -150,7 +165,7 @@ module _ {env : Environment} (n : ℕ) {cs : List Child} (h : Each (ToldChild en
   pattern_row_told pcon_row q = pcon_told n q (path_in 0 1 cs)
   pattern_row_told pparen_row q = pparen_told n q (pattern_in 1 cs) (first_of (types_in 3 cs)) (one_pattern_slot 1) (first_type_slot 3)
   pattern_row_told plist_row q = plist_told n q (patterns_in 1 cs) (patterns_slot 1)
-  pattern_row_told precord_row q = precord_told n q (filter_map (λ c. c.field_pattern) (in_slot 1 cs)) (each_kind (ToldFieldPattern env) (λ c. c.field_pattern) (λ c k. k.field_pattern) 1 h)
+  pattern_row_told precord_row q = precord_told n q (filter_map (λ c. c.field_pattern) (in_slot 1 cs)) (each_kind (ToldFieldPattern w) (λ c. c.field_pattern) (λ c k. k.field_pattern) 1 h)
   pattern_row_told papp_row q = papp_told n q (pattern_in 0 cs) (pattern_in 1 cs) (one_pattern_slot 1)
   pattern_row_told pcons_row q = pcons_told n q (pattern_in 0 cs) (pattern_in 2 cs) (one_pattern_slot 0) (one_pattern_slot 2)
   pattern_row_told ptuple_row q = ptuple_told n q (patterns_in 0 cs ++ patterns_in 2 cs) (each_append (patterns_slot 0) (patterns_slot 2))
@@ -159,7 +174,7 @@ module _ {env : Environment} (n : ℕ) {cs : List Child} (h : Each (ToldChild en
   pattern_row_told _ q = no_pattern_told n q
 
   -- a type expression by its row
-  pub type_row_told : (r : Row) (q : Place) → ToldType env (types.type_row r n q cs)
+  pub type_row_told : (r : Row) (q : Place) → ToldType w (types.type_row r n q cs)
   unfolding types.type_row
   type_row_told tvar_row q = tvar_told n q (token_in 0 cs)
   type_row_told tcon_row q = tcon_told n q (path_in 0 1 cs)

@@ -1,4 +1,4 @@
--- Environments with values in front, and conditions that tell such environments alone.
+-- Environments with values and exceptions in front, and conditions that tell such environments alone.
 use Rattle.std.proofs.Common.{◌≡◌, ◌∙◌, ℕ, ◌==◌, Bool, true, false, List, [], ◌∷◌, ◌++◌, Some, refl, ap, subst, if◌then◌else◌}
 use Rattle.tree_model.specs.Trees.{Place}
 use Rattle.type_model.specs.Types.{Typ}
@@ -6,16 +6,16 @@ use Rattle.type_model.specs.Schemes.{Scheme}
 use Rattle.signature_model.specs.Declarations.{in_text}
 use Rattle.signature_model.specs.Entries.{Environment, entry, a_value}
 use Rattle.typing_model.specs.Demands.{Demand, Condition, same, instance, made, known, demand, treated, environment_of}
-use Rattle.typing_model.specs.Contexts.{Context, Bound, ask, entries_with, with_names, monomorphic}
-use Rattle.typed_model.specs.Over.{AreValues, IsOver}
+use Rattle.typing_model.specs.Contexts.{Context, Bound, under, type_at, ask, entries_with, with_names, monomorphic}
+use Rattle.typed_model.specs.Over.{AreNoTypes, IsOver}
 use Rattle.typed_model.specs.Shown.{IsToldTyped}
 
 -- an environment is itself with nothing in front
 pub over_itself : {env : Environment} → IsOver env env
-over_itself = record { values = []; are_values = tt; is = refl }
+over_itself = record { front = []; are_no_types = tt; is = refl }
 
--- values in front of values
-values_all : (xs ys : Environment) → AreValues xs → AreValues ys → AreValues (xs ++ ys)
+-- such names in front of such names
+values_all : (xs ys : Environment) → AreNoTypes xs → AreNoTypes ys → AreNoTypes (xs ++ ys)
 values_all [] ys h g = g
 values_all (x ∷ xs) ys h g = (h.0, values_all xs ys h.1 g)
 
@@ -24,103 +24,169 @@ in_front : (xs ys zs : Environment) → xs ++ (ys ++ zs) ≡ (xs ++ ys) ++ zs
 in_front [] ys zs = refl
 in_front (x ∷ xs) ys zs = ap (λ es. x ∷ es) (in_front xs ys zs)
 
--- values in front of one that has values in front
-pub over_values : {env E : Environment} (values : Environment) → AreValues values → IsOver env E → IsOver env (values ++ E)
-over_values {env} values are h = record { values = values ++ h.values; are_values = values_all values h.values are h.are_values; is = ap (λ es. values ++ es) h.is ∙ in_front values h.values env }
+-- such names in front of one that has such in front
+pub over_values : {env E : Environment} (values : Environment) → AreNoTypes values → IsOver env E → IsOver env (values ++ E)
+over_values {env} values are h = record { front = values ++ h.front; are_no_types = values_all values h.front are h.are_no_types; is = ap (λ es. values ++ es) h.is ∙ in_front values h.front env }
 
--- names with schemes are values
-pub values_with : (scheme : Typ → Scheme) (c : Context) (bs : List Bound) (E : Environment) → AreValues E → AreValues (entries_with scheme c bs E)
+-- names with schemes are no types
+pub values_with : (scheme : Typ → Scheme) (c : Context) (bs : List Bound) (E : Environment) → AreNoTypes E → AreNoTypes (entries_with scheme c bs E)
 values_with scheme c [] E h = h
-values_with scheme c (b ∷ bs) E h = values_with scheme c bs (entry b.name (in_text b.place) (a_value (scheme (b.has_type c))) ∷ E) ((scheme (b.has_type c), refl), h)
+values_with scheme c (b ∷ bs) E h = values_with scheme c bs (entry b.name (in_text b.place) (a_value (scheme (b.has_type c))) ∷ E) (tt, h)
 
--- names with schemes in front of one that has values in front
-pub over_names : {env E : Environment} (scheme : Typ → Scheme) (c : Context) (bs : List Bound) → IsOver env E → IsOver env (entries_with scheme c bs E)
-over_names scheme c [] h = h
-over_names {E = E} scheme c (b ∷ bs) h = over_names scheme c bs (over_values (entry b.name (in_text b.place) (a_value (scheme (b.has_type c))) ∷ []) ((scheme (b.has_type c), refl), tt) h)
+-- names with schemes in front of one that has such names in front
+names_in_front : {env E : Environment} (scheme : Typ → Scheme) (c : Context) (bs : List Bound) → IsOver env E → IsOver env (entries_with scheme c bs E)
+names_in_front scheme c [] h = h
+names_in_front {E = E} scheme c (b ∷ bs) h = names_in_front scheme c bs (over_values (entry b.name (in_text b.place) (a_value (scheme (b.has_type c))) ∷ []) (tt, tt) h)
+
+-- an environment, and the types that are chosen for nodes
+pub record Around : Type 0 where
+  pub env : Environment
+  pub types : ℕ → Typ
+
+-- a context has values and exceptions in front of the environment, and these types
+pub record IsIn (w : Around) (c : Context) : Type 0 where
+  pub over : IsOver w.env c.env
+  pub chosen : c.chosen.type_at ≡ w.types
+
+-- a context with names in front
+pub over_names : {w : Around} (scheme : Typ → Scheme) (c : Context) (bs : List Bound) → IsIn w c → IsIn w (under (entries_with scheme c bs c.env) c)
+over_names scheme c bs o = record { over = names_in_front scheme c bs o.over; chosen = o.chosen }
+
+-- and with values and exceptions
+pub over_more : {w : Around} (c : Context) (values : Environment) → AreNoTypes values → IsIn w c → IsIn w (under (values ++ c.env) c)
+over_more c values are o = record { over = over_values values are o.over; chosen = o.chosen }
 
 -- the context of a part in which names of patterns are in scope
-pub over_with : {env : Environment} (c : Context) (bs : List Bound) → IsOver env c.env → IsOver env (with_names c bs).env
-over_with c bs h = over_names monomorphic c bs h
+pub over_with : {w : Around} (c : Context) (bs : List Bound) → IsIn w c → IsIn w (with_names c bs)
+over_with c bs o = over_names monomorphic c bs o
 
--- each environment that conditions tell has values in front of this one
-abbrev pub AllOver : Environment → List Condition → Type 0
-AllOver env [] = Unit {0}
-AllOver env (same t u ∷ cs) = AllOver env cs
-AllOver env (instance s t ∷ cs) = AllOver env cs
-AllOver env (made n t ∷ cs) = AllOver env cs
-AllOver env (known t ∷ cs) = AllOver env cs
-AllOver env (demand s at d ∷ cs) = AllOver env cs
-AllOver env (treated n E ∷ cs) = IsOver env E × AllOver env cs
+-- the type that is known directly after a node is treated is its own
+abbrev pub OwnNext : Around → ℕ → List Condition → Type 0
+OwnNext w n [] = Unit {0}
+OwnNext w n (same t u ∷ cs) = Unit {0}
+OwnNext w n (instance s t ∷ cs) = Unit {0}
+OwnNext w n (made m t ∷ cs) = Unit {0}
+OwnNext w n (known t ∷ cs) = t ≡ w.types n
+OwnNext w n (demand s at d ∷ cs) = Unit {0}
+OwnNext w n (treated m E ∷ cs) = Unit {0}
+
+-- conditions don't begin with a type that is known
+abbrev pub BeginsOther : List Condition → Type 0
+BeginsOther [] = Unit {0}
+BeginsOther (same t u ∷ cs) = Unit {0}
+BeginsOther (instance s t ∷ cs) = Unit {0}
+BeginsOther (made m t ∷ cs) = Unit {0}
+BeginsOther (known t ∷ cs) = ⊥
+BeginsOther (demand s at d ∷ cs) = Unit {0}
+BeginsOther (treated m E ∷ cs) = Unit {0}
+
+-- each environment that conditions tell has values and exceptions in front of this one, and where a type is known directly after a node is treated, it is the node's own
+abbrev pub AllOver : Around → List Condition → Type 0
+AllOver w [] = Unit {0}
+AllOver w (same t u ∷ cs) = AllOver w cs
+AllOver w (instance s t ∷ cs) = AllOver w cs
+AllOver w (made n t ∷ cs) = AllOver w cs
+AllOver w (known t ∷ cs) = AllOver w cs
+AllOver w (demand s at d ∷ cs) = AllOver w cs
+AllOver w (treated n E ∷ cs) = IsOver w.env E × OwnNext w n cs × AllOver w cs
 
 -- conditions that tell such environments alone
-pub record Told (env : Environment) (cs : List Condition) : Type 0 where
-  pub over : AllOver env cs
+pub record Told (w : Around) (cs : List Condition) : Type 0 where
+  pub over : AllOver w cs
+  pub first : BeginsOther cs
 
 -- conditions by what each of them tells
-pub silent : {env : Environment} (cs : List Condition) → AllOver env cs → Told env cs
-silent cs h = record { over = h }
+pub silent : {w : Around} (cs : List Condition) → BeginsOther cs × AllOver w cs → Told w cs
+silent cs h = record { over = h.1; first = h.0 }
 
 -- no condition
-pub nothing_told : {env : Environment} → Told env []
-nothing_told = record { over = tt }
+pub nothing_told : {w : Around} → Told w []
+nothing_told = record { over = tt; first = tt }
+
+-- what is next in two lists, one after the other
+own_next : (w : Around) (n : ℕ) (ys : List Condition) → BeginsOther ys → OwnNext w n ys
+own_next w n [] h = tt
+own_next w n (same t u ∷ cs) h = tt
+own_next w n (instance s t ∷ cs) h = tt
+own_next w n (made m t ∷ cs) h = tt
+own_next w n (known t ∷ cs) h = absurd h
+own_next w n (demand s at d ∷ cs) h = tt
+own_next w n (treated m E ∷ cs) h = tt
+
+own_then : (w : Around) (n : ℕ) (xs ys : List Condition) → OwnNext w n xs → BeginsOther ys → OwnNext w n (xs ++ ys)
+own_then w n [] ys h g = own_next w n ys g
+own_then w n (same t u ∷ cs) ys h g = tt
+own_then w n (instance s t ∷ cs) ys h g = tt
+own_then w n (made m t ∷ cs) ys h g = tt
+own_then w n (known t ∷ cs) ys h g = h
+own_then w n (demand s at d ∷ cs) ys h g = tt
+own_then w n (treated m E ∷ cs) ys h g = tt
+
+begins_then : (xs ys : List Condition) → BeginsOther xs → BeginsOther ys → BeginsOther (xs ++ ys)
+begins_then [] ys h g = g
+begins_then (same t u ∷ cs) ys h g = tt
+begins_then (instance s t ∷ cs) ys h g = tt
+begins_then (made m t ∷ cs) ys h g = tt
+begins_then (known t ∷ cs) ys h g = absurd h
+begins_then (demand s at d ∷ cs) ys h g = tt
+begins_then (treated m E ∷ cs) ys h g = tt
 
 -- what each of two lists tells
-all_over : (env : Environment) (xs ys : List Condition) → AllOver env xs → AllOver env ys → AllOver env (xs ++ ys)
-all_over env [] ys h g = g
-all_over env (same t u ∷ xs) ys h g = all_over env xs ys h g
-all_over env (instance s t ∷ xs) ys h g = all_over env xs ys h g
-all_over env (made n t ∷ xs) ys h g = all_over env xs ys h g
-all_over env (known t ∷ xs) ys h g = all_over env xs ys h g
-all_over env (demand s at d ∷ xs) ys h g = all_over env xs ys h g
-all_over env (treated n E ∷ xs) ys h g = (h.0, all_over env xs ys h.1 g)
+all_over : (w : Around) (xs ys : List Condition) → AllOver w xs → BeginsOther ys → AllOver w ys → AllOver w (xs ++ ys)
+all_over w [] ys h f g = g
+all_over w (same t u ∷ xs) ys h f g = all_over w xs ys h f g
+all_over w (instance s t ∷ xs) ys h f g = all_over w xs ys h f g
+all_over w (made n t ∷ xs) ys h f g = all_over w xs ys h f g
+all_over w (known t ∷ xs) ys h f g = all_over w xs ys h f g
+all_over w (demand s at d ∷ xs) ys h f g = all_over w xs ys h f g
+all_over w (treated n E ∷ xs) ys h f g = (h.0, own_then w n xs ys h.1 f, all_over w xs ys h.2 f g)
 
 -- conditions behind others
-pub join : {env : Environment} {xs ys : List Condition} → Told env xs → Told env ys → Told env (xs ++ ys)
-join {env} {xs} {ys} h g = record { over = all_over env xs ys h.over g.over }
+pub join : {w : Around} {xs ys : List Condition} → Told w xs → Told w ys → Told w (xs ++ ys)
+join {w} {xs} {ys} h g = record { over = all_over w xs ys h.over g.first g.over; first = begins_then xs ys h.first g.first }
 
 -- conditions behind others, which tell nothing
-pub quiet : {env : Environment} {xs : List Condition} (ys : List Condition) → AllOver env ys → Told env xs → Told env (xs ++ ys)
+pub quiet : {w : Around} {xs : List Condition} (ys : List Condition) → BeginsOther ys × AllOver w ys → Told w xs → Told w (xs ++ ys)
 quiet ys e h = join h (silent ys e)
 
 -- one demand
-pub asked : {env : Environment} {n k : ℕ} {p : Place} {d : Demand} → Told env (ask n k p d)
-asked = record { over = tt }
+pub asked : {w : Around} {n k : ℕ} {p : Place} {d : Demand} → Told w (ask n k p d)
+asked = record { over = tt; first = tt }
 
 -- a node is treated first
-pub told : {env E : Environment} {i : ℕ} {cs : List Condition} → IsOver env E → Told env cs → Told env (treated i E ∷ cs)
-told o h = record { over = (o, h.over) }
+pub told : {w : Around} {c : Context} {i : ℕ} {cs : List Condition} → IsIn w c → Told w cs → Told w (treated i c.env ∷ cs)
+told {w} {c} {i} {cs} o h = record { over = (o.over, own_next w i cs h.first, h.over); first = tt }
 
 -- and its type is known
-pub known_too : {env : Environment} {t : Typ} {cs : List Condition} → Told env cs → Told env (known t ∷ cs)
-known_too h = record { over = h.over }
+pub told_typed : {w : Around} {c : Context} {i : ℕ} {cs : List Condition} → IsIn w c → Told w cs → Told w (treated i c.env ∷ known (type_at c i) ∷ cs)
+told_typed {w} {c} {i} {cs} o h = record { over = (o.over, ap (λ f. f i) o.chosen, h.over); first = tt }
 
 -- the environment in which a node is treated is one of them
-pub found_over : (env : Environment) (n : ℕ) (E : Environment) (cs : List Condition) → AllOver env cs → environment_of n cs ≡ Some E → IsOver env E
-found_over env n E [] h e = absurd (cc)
-found_over env n E (same t u ∷ cs) h e = found_over env n E cs h e
-found_over env n E (instance s t ∷ cs) h e = found_over env n E cs h e
-found_over env n E (made m t ∷ cs) h e = found_over env n E cs h e
-found_over env n E (known t ∷ cs) h e = found_over env n E cs h e
-found_over env n E (demand s at d ∷ cs) h e = found_over env n E cs h e
-found_over env n E (treated m F ∷ cs) h e = by (n == m) e (found_over env n E cs h.1)
+pub found_over : (w : Around) (n : ℕ) (E : Environment) (cs : List Condition) → AllOver w cs → environment_of n cs ≡ Some E → IsOver w.env E
+found_over w n E [] h e = absurd (cc)
+found_over w n E (same t u ∷ cs) h e = found_over w n E cs h e
+found_over w n E (instance s t ∷ cs) h e = found_over w n E cs h e
+found_over w n E (made m t ∷ cs) h e = found_over w n E cs h e
+found_over w n E (known t ∷ cs) h e = found_over w n E cs h e
+found_over w n E (demand s at d ∷ cs) h e = found_over w n E cs h e
+found_over w n E (treated m F ∷ cs) h e = by (n == m) e (found_over w n E cs h.2)
   where
     one : {A : Type 0} {x y : A} → Some x ≡ Some y → x ≡ y
     one p = cc
 
-    by : (b : Bool) → (if b then Some F else environment_of n cs) ≡ Some E → (environment_of n cs ≡ Some E → IsOver env E) → IsOver env E
-    by true p later = subst (IsOver env) (one p) h.0
+    by : (b : Bool) → (if b then Some F else environment_of n cs) ≡ Some E → (environment_of n cs ≡ Some E → IsOver w.env E) → IsOver w.env E
+    by true p later = subst (IsOver w.env) (one p) h.0
     by false p later = later p
 
--- so is each environment in which they tell that a node is treated
-all_told_over : (env : Environment) (n : ℕ) (E : Environment) (xs ys : List Condition) → AllOver env (xs ++ treated n E ∷ ys) → IsOver env E
-all_told_over env n E [] ys h = h.0
-all_told_over env n E (same t u ∷ xs) ys h = all_told_over env n E xs ys h
-all_told_over env n E (instance s t ∷ xs) ys h = all_told_over env n E xs ys h
-all_told_over env n E (made m t ∷ xs) ys h = all_told_over env n E xs ys h
-all_told_over env n E (known t ∷ xs) ys h = all_told_over env n E xs ys h
-all_told_over env n E (demand s at d ∷ xs) ys h = all_told_over env n E xs ys h
-all_told_over env n E (treated m F ∷ xs) ys h = all_told_over env n E xs ys h.1
+-- so is each environment in which they tell a node with its type, which is the node's own
+all_told : (w : Around) (n : ℕ) (E : Environment) (t : Typ) (xs ys : List Condition) → AllOver w (xs ++ treated n E ∷ known t ∷ ys) → IsOver w.env E × (t ≡ w.types n)
+all_told w n E t [] ys h = (h.0, h.1)
+all_told w n E t (same u v ∷ xs) ys h = all_told w n E t xs ys h
+all_told w n E t (instance s u ∷ xs) ys h = all_told w n E t xs ys h
+all_told w n E t (made m u ∷ xs) ys h = all_told w n E t xs ys h
+all_told w n E t (known u ∷ xs) ys h = all_told w n E t xs ys h
+all_told w n E t (demand s at d ∷ xs) ys h = all_told w n E t xs ys h
+all_told w n E t (treated m F ∷ xs) ys h = all_told w n E t xs ys h.2
 
--- also where it is told with its type
-pub typed_over : (env : Environment) (n : ℕ) (E : Environment) (t : Typ) (cs : List Condition) → AllOver env cs → IsToldTyped n E t cs → IsOver env E
-typed_over env n E t cs h told = all_told_over env n E told.before (known t ∷ told.after) (subst (AllOver env) told.is h)
+pub typed_over : (w : Around) (n : ℕ) (E : Environment) (t : Typ) (cs : List Condition) → AllOver w cs → IsToldTyped n E t cs → IsOver w.env E × (t ≡ w.types n)
+typed_over w n E t cs h told = all_told w n E t told.before told.after (subst (AllOver w) told.is h)

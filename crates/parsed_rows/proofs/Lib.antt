@@ -3,3 +3,4 @@ pub mod Signs
 pub mod Rows
 pub mod Sized
 pub mod Items
+pub mod Bare

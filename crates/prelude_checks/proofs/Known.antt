@@ -1,41 +1,14 @@
 -- No unknown type stands in the types of the prelude's type expressions, and each demand of its conditions is kept.
-use Rattle.std.proofs.Common.{◌≡◌, ◌==◌, ℕ, Bool, true, false, not, ◌&&◌, List, [], ◌∷◌, if◌then◌else◌, refl}
-use Rattle.type_model.specs.Types.{Typ, Typs, Var, Arrow, Tuple, Con, Nil, Cons}
-use Rattle.signature_model.specs.Matching.{is_unknown, IsKnown, AreKnown}
+use Rattle.std.proofs.Common.{◌≡◌, ◌==◌, ℕ, Bool, true, false, ◌&&◌, List, [], ◌∷◌, if◌then◌else◌, refl}
+use Rattle.type_model.specs.Types.{Typ}
+use Rattle.signature_model.specs.Matching.{IsKnown}
 use Rattle.typing_model.specs.Demands.{equal, test, agrees, matches, closes, Condition, same, instance, made, known, demand, treated}
 use Rattle.typing_model.specs.First.{every_site}
 use Rattle.typing_conditions.specs.Judging.{judgements}
 use Rattle.signature_typing.specs.Specifications.{AreSure}
+use Rattle.first_laws.proofs.Known.{is_known_type, type_known}
 use Rattle.prelude_checks.proofs.Checked.{both, one_type, all_hold}
 use Rattle.prelude_checks.proofs.Chosen.{type_in, chosen, choice}
-
--- whether no unknown type stands in a type
-abbrev mutual
-  pub is_known_type : Typ → Bool
-  is_known_type (Var v) = true
-  is_known_type (Arrow a b) = is_known_type a && is_known_type b
-  is_known_type (Tuple ts) = are_known_types ts
-  is_known_type (Con o ts) = not (is_unknown o) && are_known_types ts
-
-  -- the same of several
-  pub are_known_types : Typs → Bool
-  are_known_types Nil = true
-  are_known_types (Cons t ts) = is_known_type t && are_known_types ts
-
-not_true : (b : Bool) → not b ≡ true → b ≡ false
-not_true true h = absurd (cc)
-not_true false h = refl
-
-mutual
-  pub type_known : (t : Typ) → is_known_type t ≡ true → IsKnown t
-  type_known (Var v) h = tt
-  type_known (Arrow a b) h = let r = both (is_known_type a) (is_known_type b) h in (type_known a r.0, type_known b r.1)
-  type_known (Tuple ts) h = types_known ts h
-  type_known (Con o ts) h = let r = both (not (is_unknown o)) (are_known_types ts) h in (not_true (is_unknown o) r.0, types_known ts r.1)
-
-  types_known : (ts : Typs) → are_known_types ts ≡ true → AreKnown ts
-  types_known Nil h = tt
-  types_known (Cons t ts) h = let r = both (is_known_type t) (are_known_types ts) h in (type_known t r.0, types_known ts r.1)
 
 -- whether that is so of all types of a table
 abbrev is_known_table : List (ℕ × Typ) → Bool

@@ -20,3 +20,5 @@ pub mod FirstAscii
 pub mod Starts
 pub mod Behind
 pub mod Steps
+pub mod FirstTypes
+pub mod ValueTypes

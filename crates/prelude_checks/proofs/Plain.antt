@@ -1,11 +1,9 @@
 -- No variable in the roots of the prelude's declarations has an unknown type as its name: other names can be given to the variables that stand in none of them. And each of its types with labels is a type of its own.
-use Rattle.std.proofs.Common.{◌≡◌, ◌∙◌, ◌&&◌, ◌+◌, inl, inr, ℕ, zero, suc, Bool, true, false, List, [], ◌∷◌, Option, None, Some, refl, sym, ap, subst}
-use Rattle.std.proofs.lemmas.Bool.{eqb-true}
-use Rattle.type_model.specs.Types.{Path, Typ, Typs, occurs, occurs_any}
+use Rattle.std.proofs.Common.{◌≡◌, ◌∙◌, ◌&&◌, ◌+◌, ℕ, zero, suc, Bool, true, false, List, [], ◌∷◌, Option, refl, sym, ap, subst}
+use Rattle.type_model.specs.Types.{Path, Typ, occurs}
 use Rattle.type_model.specs.Types.{Typ as type, Typs as types}
 use Rattle.type_model.specs.Schemes.{Scheme}
-use Rattle.type_model.specs.Substitutions.{apply, apply_all}
-use Rattle.type_model.proofs.Applying.{apply_agree, or_cases}
+use Rattle.type_model.proofs.Applying.{apply_agree}
 use Rattle.signature_model.specs.Declarations as rules
 use Rattle.signature_model.specs.Declarations.{type_of, parameters_from}
 use Rattle.signature_model.specs.Signatures.{Signature}
@@ -24,10 +22,11 @@ use Rattle.env_table.specs.declared.entries.Shape.{Shape}
 use Rattle.env_table.specs.declared.entries.Sig.{Sig}
 use Rattle.env_table.specs.declared.entries.What.{What}
 use Rattle.typing_conditions.specs.Locals.{IsOwn}
-use Rattle.typing_conditions.specs.Declared.{IsNamed, a_parameter, an_unknown, NoneUnknown, UnknownApart, RootAs, building, MakesAs, ConstructorAs, LabelAs, OneByOne, no_more, one_more, ShapeAs, tell_nothing, tell_constructors, tell_labels, and_last, with_parameters, DeclaredAs, ExceptionAs}
+use Rattle.typing_conditions.specs.Declared.{IsNamed, a_parameter, an_unknown, NoneUnknown, UnknownApart, RootAs, MakesAs, ConstructorAs, LabelAs, OneByOne, no_more, one_more, ShapeAs, tell_nothing, tell_constructors, tell_labels, and_last, with_parameters, DeclaredAs, ExceptionAs}
 use Rattle.typing_conditions.specs.Environments.{WhatAs, of_value, of_constructor, of_exception, of_label, of_type, of_module, of_module_type, entry_as, EnvAs, no_names, newest, SigAs, of_hole, of_structure, of_functor}
 use Rattle.typing_conditions.specs.Surroundings.{HasOwnLabels}
-use Rattle.prelude_checks.proofs.Known.{is_known_type, type_known}
+use Rattle.first_laws.proofs.Specified.{known_there}
+use Rattle.first_laws.proofs.Known.{is_known_type, knows_option, type_known, building_known}
 
 -- the name of a variable, which is no constructor
 abbrev plain_name : Typ → Typ
@@ -54,25 +53,13 @@ none_unknown N v o u e = never_named (N v) o e
 pub none_apart : (N : Types) → UnknownApart (plain_names N)
 none_apart N v w o u e f = absurd (never_named (N v) o e)
 
--- what a known type is made of is known
-mutual
-  known_at : (N : Types) (u : Typ) → IsKnown (apply N u) → (v : ℕ) → occurs v u ≡ true → IsKnown (N v)
-  known_at N (type.Var w) k v o = subst (λ z. IsKnown (N z)) (sym (eqb-true v w o)) k
-  known_at N (type.Arrow a b) k v o = elim (or_cases (occurs v a) (occurs v b) o) [ inl i ↦ known_at N a k.0 v i | inr i ↦ known_at N b k.1 v i ]
-  known_at N (type.Tuple ts) k v o = known_in N ts k v o
-  known_at N (type.Con p ts) k v o = known_in N ts k.1 v o
-
-  known_in : (N : Types) (us : Typs) → AreKnown (apply_all N us) → (v : ℕ) → occurs_any v us ≡ true → IsKnown (N v)
-  known_in N types.Nil k v o = absurd (no_yes o)
-  known_in N (types.Cons t ts) k v o = elim (or_cases (occurs v t) (occurs_any v ts) o) [ inl i ↦ known_at N t k.0 v i | inr i ↦ known_in N ts k.1 v i ]
-
 -- in the root of a known type each variable is a parameter
 root_parameter : {nodes : List Node} {C : List ℕ} {N : Types} {arity r : ℕ} {t : Typ} → RootAs nodes C N arity r t → IsKnown t → (I : Types) → IsOwn nodes I → (v : ℕ) → occurs v (I r) ≡ true → plain_name (N v) ≡ N v
 root_parameter {nodes} {C} {N} {arity} {r} {t} root known I own v o = by (root.named I own v o)
   where
     by : IsNamed nodes N arity v → plain_name (N v) ≡ N v
     by (a_parameter scope k e other lt is) = ap plain_name is ∙ sym is
-    by (an_unknown p e u is) = absurd (no_yes (sym (subst IsKnown is (known_at N (I r) (subst IsKnown (root.is I own) known) v o)).0 ∙ u))
+    by (an_unknown p e u is) = absurd (no_yes (sym (subst IsKnown is (known_there N v (I r) o (subst IsKnown (root.is I own) known))).0 ∙ u))
 
 root_plain : {nodes : List Node} {C : List ℕ} {N : Types} {arity r : ℕ} {t : Typ} → RootAs nodes C N arity r t → IsKnown t → RootAs nodes C (plain_names N) arity r t
 root_plain {nodes} {C} {N} {arity} {r} {t} root known = record {
@@ -89,10 +76,6 @@ root_plain {nodes} {C} {N} {arity} {r} {t} root known = record {
     by v same (an_unknown p e u is) = an_unknown p e u (same ∙ is)
 
 -- ---- what is known of declarations, by computation
-
-abbrev knows_option : Option Typ → Bool
-knows_option None = true
-knows_option (Some t) = is_known_type t
 
 abbrev knows_constructors : List rules.Constructor → Bool
 knows_constructors [] = true
@@ -141,10 +124,6 @@ knows_names [] = true
 knows_names (e ∷ es) = knows_referent e.stands_for && knows_names es
 
 -- ---- and by their roots
-
-building_known : (result : Typ) (o : Option Typ) → IsKnown result → knows_option o ≡ true → IsKnown (building result o)
-building_known result None known h = known
-building_known result (Some t) known h = (type_known t h, known)
 
 parameters_known : (j k : ℕ) (t : Typ) → IsKnown t → AreKnown (and_last (parameters_from j k) t)
 parameters_known j zero t known = (known, tt)

@@ -5,34 +5,37 @@
 //! No program calls it. A clause of `text_analysis` and its proof cite `specs/Known` and `Behind`: by `prelude_starts` the names after
 //! the prelude's items are those of the first environment. `Typed`, `Known` and `Fitting` have the typing that it starts from;
 //! `Items`, `TypeRows` and `ModuleRows` that each of these items is a carried one; in `Places` names are compared without where they
-//! are defined.
+//! are defined. `FirstTypes` has the types of the first environment, of which `ValueTypes` says that the types of a text's nodes are made.
 #![tactic(auto)]
 
-ghost use Rattle.std.specs.Prelude.{◌≡◌, ℕ, Bool, true, List, codes, Some, slice_get};
+ghost use Rattle.std.specs.Prelude.{◌≡◌, ℕ, Bool, true, List, codes, map, reverse, Some, slice_get};
 ghost use Rattle.token_model.specs.Kinds.{Tok};
 ghost use Rattle.token_model.specs.Tokens.{Lex};
 ghost use Rattle.tree_model.specs.Trees.{Tree};
-ghost use Rattle.query_model.specs.TypedNodes.{Typed};
+ghost use Rattle.query_model.specs.TypedNodes.{Typed, typed_at};
 ghost use Rattle.type_model.specs.Types.{Path, Typ};
 ghost use Rattle.signature_model.specs.Declarations.{Name};
+ghost use Rattle.signature_model.specs.Changes.{among};
 ghost use Rattle.signature_model.specs.Entries.{Entry, Environment, free_in};
-ghost use Rattle.type_print_model.specs.Paths.{Naming};
-ghost use Rattle.type_print_model.specs.Printing.{Prints};
+ghost use Rattle.type_print_model.specs.Paths.{Naming, NamePath, Reaches, naming};
+ghost use Rattle.type_print_model.specs.Printing.{Prints, mentions};
 ghost use Rattle.type_print_model.specs.Variables.{is_among};
 ghost use Rattle.typing_model.specs.Contexts.{Choice};
 ghost use Rattle.typing_model.specs.Items.{behind_items};
 ghost use Rattle.typing_model.specs.Meanings.{items_of};
 ghost use Rattle.typing_model.specs.Typings.{conditions_of, outermost, IsMostGeneralChoice};
-ghost use Rattle.typing_model.specs.First.{IsFirst, IsSetting, IsFound};
+ghost use Rattle.typing_model.specs.First.{IsFirst, IsSetting, IsFound, program_items};
 ghost use Rattle.typing_model.specs.Demands.{Site};
-ghost use Rattle.typing_model.specs.Plain.{has_no_modules, has_lets_alone};
+ghost use Rattle.typing_model.specs.Plain.{has_no_modules, has_values_alone};
 ghost use Rattle.fault_model.specs.Refused.{Refused, AreRefused};
+ghost use Rattle.fault_model.specs.Values.{are_bare};
 ghost use Rattle.typing_model.specs.PreludeText.{prelude_text};
-ghost use Rattle.typed_model.specs.Shown.{AreShown};
-ghost use Rattle.shown_alike.specs.Settled.{HasNone, type_at, IsTold, IsSettled};
+ghost use Rattle.typed_model.specs.Shown.{IsToldTyped, IsTypingOf, AreShown, asked};
+ghost use Rattle.shown_alike.specs.Told.{HasNone, type_at};
 ghost use Rattle.model_checks.specs.Kept.{kept_at, reference_kept};
 ghost use Rattle.model_checks.specs.Open.{open_types};
 ghost use Rattle.prelude_checks.specs.Found.{reference_open};
+ghost use Rattle.prelude_checks.specs.FirstTypes.{first_types};
 ghost use Rattle.prelude_checks.specs.Known.{IsPreludeTyped};
 
 /// The text of the whole prelude has tokens, and a typing that keeps all of its demands: there is a first environment.
@@ -67,17 +70,23 @@ pub fn kept_demands_that_are_found_are_one()
     ensures { (text : List ℕ) (kept others : Site → Bool) (types shown : ℕ → Typ) (f : IsFound text kept types) → has_no_modules f.items ≡ true → IsFound text others shown → (s : Site) → kept s ≡ others s }
 {}
 
-/// The places and kinds of the faults of items that are `let` and `;;` alone are one, and so are the messages of those on names.
-pub fn faults_of_lets_are_one()
-    ensures { (items : List Tree) (faults others : List Refused) → has_lets_alone items ≡ true → AreRefused items faults → AreRefused items others → faults ≡ others }
+/// The places and kinds of the faults of items that are `let`, exceptions and `;;` alone are one, and so are the messages of those on names.
+pub fn faults_of_values_are_one()
+    ensures { (items : List Tree) (faults others : List Refused) → has_values_alone items ≡ true → AreRefused items faults → AreRefused items others → faults ≡ others }
 {}
 
-/// The text that is shown of a node of such items is one, where the node is told with its type, whose constructors have the paths of
-/// declarations, a path of names reaches each origin in it, its whole text has at most 4,096 bytes, and none of its variables is weak.
-pub fn types_of_lets_are_one()
-    ensures { (items : List Tree) (nodes : List Typed) (texts others : List (List ℕ)) → has_lets_alone items ≡ true → (a : AreShown items nodes texts) (b : AreShown items nodes others) →
-        (k : ℕ) (n : Typed) (shown other : List ℕ) → slice_get nodes k ≡ Some n → slice_get texts k ≡ Some shown → slice_get others k ≡ Some other →
-        IsSettled a.typing a.weak n → IsTold b.typing n → HasNone a.weak (type_at a.typing n) → HasNone b.weak (type_at b.typing n) → shown ≡ other }
+/// Each constructor in the type of a node of such items that is told with it is one of the types of the first environment, and a path
+/// of the names in scope there reaches it, where the exceptions take no argument.
+pub fn types_of_values_have_paths()
+    ensures { (items : List Tree) → has_values_alone items ≡ true → are_bare items ≡ true → (t : IsTypingOf items) (n : ℕ) (E : Environment) (u : Typ) → IsToldTyped n E u (asked t) →
+        (o : Path) → mentions o (t.choice.type_at n) ≡ true → (among o (map (λ t. t.1) first_types) ≡ true) × (p : NamePath) × Reaches naming E o p }
+{}
+
+/// The text that is shown of a typed node of a program of such items is one, where none of the variables of its type is weak.
+pub fn types_of_values_are_one()
+    ensures { (tokens : List Tok) (o : ℕ) (texts others : List (List ℕ)) → has_values_alone (program_items tokens) ≡ true → (a : AreShown (program_items tokens) (reverse (typed_at o (program_items tokens))) texts) →
+        (b : AreShown (program_items tokens) (reverse (typed_at o (program_items tokens))) others) → (k : ℕ) (n : Typed) (shown other : List ℕ) → slice_get (reverse (typed_at o (program_items tokens))) k ≡ Some n →
+        slice_get texts k ≡ Some shown → slice_get others k ≡ Some other → HasNone a.weak (type_at a.typing n) → HasNone b.weak (type_at b.typing n) → shown ≡ other }
 {}
 
 /// And the types of its nodes print alike in two most general choices, where the weak variables are those that are free behind its items.

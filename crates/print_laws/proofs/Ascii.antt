@@ -18,7 +18,7 @@ use Rattle.type_print_model.specs.Paths.{IsNameOf, shown, hidden, dotted, naming
 use Rattle.type_print_model.specs.Printing.{Within, alone, left_of_arrow, inner, wrapped, wraps_arrow, wraps_tuple, Names, text_of, separated, rest_of, arguments_of, mentions, mentions_any}
 use Rattle.type_print.specs.Texts.{IsAscii}
 use Rattle.type_print.proofs.Ranks.{tells, both, both_true}
-use Rattle.typed_model.specs.Over.{AreValues, IsOver}
+use Rattle.typed_model.specs.Over.{IsNoType, AreNoTypes, IsOver}
 use Rattle.print_laws.specs.Environments.{IsHidden}
 use Rattle.print_laws.specs.Ascii.{is_ascii, signature_ascii, components_ascii, meaning_ascii, referent_ascii, names_ascii}
 
@@ -189,14 +189,19 @@ pub of_origin : (E : Environment) → names_ascii E ≡ true → (declared : Pat
 of_origin E h declared o _ d (shown {p = p} is) = path_ascii p.modules p.name E is.reaches.entry h is.reaches.found
 of_origin E h declared o _ d (hidden none) = join (declared o) (codes "/hidden") (d none) (omega arith, (omega arith, (omega arith, (omega arith, (omega arith, (omega arith, (omega arith, tt)))))))
 
--- values in front change nothing
-pub values_ascii : (vs E : Environment) → AreValues vs → names_ascii (vs ++ E) ≡ names_ascii E
-values_ascii [] E h = refl
-values_ascii (v ∷ vs) E h = ap (λ r. referent_ascii v.name r && names_ascii (vs ++ E)) h.0.1 ∙ values_ascii vs E h.1
+-- values and exceptions in front change nothing
+no_type_ascii : (n : Name) (r : Referent) → IsNoType r → referent_ascii n r ≡ true
+no_type_ascii n (a_value s) h = refl
+no_type_ascii n (an_exception o) h = refl
+no_type_ascii n _ h = absurd h
 
--- so the names of one that has values alone over such a one are such
+pub values_ascii : (vs E : Environment) → AreNoTypes vs → names_ascii (vs ++ E) ≡ names_ascii E
+values_ascii [] E h = refl
+values_ascii (v ∷ vs) E h = ap (λ b. b && names_ascii (vs ++ E)) (no_type_ascii v.name v.stands_for h.0) ∙ values_ascii vs E h.1
+
+-- so the names of one that has values and exceptions alone over such a one are such
 pub over_ascii : {env E : Environment} → IsOver env E → names_ascii env ≡ true → names_ascii E ≡ true
-over_ascii {env = env} over h = ap names_ascii over.is ∙ values_ascii over.values env over.are_values ∙ h
+over_ascii {env = env} over h = ap names_ascii over.is ∙ values_ascii over.front env over.are_no_types ∙ h
 
 -- texts of types
 

@@ -7,4 +7,3 @@ pub mod Declared
 pub mod Over
 pub mod One
 pub mod Texts
-pub mod Declarations

@@ -22,7 +22,7 @@ pub prints_weak : {E : Type 0} (N : Naming E) (env : List E) (declared : Path �
 prints_weak N env declared weak weaks t s keeps p =
     subst (λ u. Prints N env declared weaks u s) (apply_leaves (renaming (λ v. v)) t (λ v o. refl)) (prints_alone N env declared (λ v. v) (λ v. v) weak weaks t s (λ v o. refl) keeps p)
 
--- two texts of a type are one where the two environments have values alone over one
+-- two texts of a type are one where the two environments have values and exceptions alone over one
 pub texts_over : {env E F : Environment} → IsOver env E → IsOver env F → (declared : Path → Name) (weak : List ℕ) (t : Typ) (s u : List ℕ) → Prints naming E declared weak t s → Prints naming F declared weak t u → s ≡ u
 texts_over {F = F} one two declared weak t s u p q = one_text F declared weak (variables_of t) t s u (prints_over one two declared weak t s p) q
 

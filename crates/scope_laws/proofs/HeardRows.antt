@@ -3,7 +3,7 @@ use Rattle.std.proofs.Common.{◌≡◌, ◌⊎◌, inl, inr, ℕ, ◌==◌, Boo
 use Rattle.std.proofs.lemmas.Bool.{eqb-true, eq-eqb}
 use Rattle.tree_model.specs.Trees.{Place, place}
 use Rattle.tree_model.specs.Slots.{is_operand}
-use Rattle.tree_model.specs.Rows.{Row, tvar_row, tcon_row, tparen_row, tapp_row, ttuple_row, tarrow_row, pname_row, pany_row, pconst_row, pneg_row, pcon_row, pparen_row, plist_row, precord_row, papp_row, pcons_row, ptuple_row, por_row, pas_row, qfield_row, binding_row, case_row, ffield_row, name_row, econ_row, epath_row, econst_row, hole_row, eparen_row, ebegin_row, elist_row, erecord_row, prefix_row, field_row, eapp_row, eassert_row, ewhile_row, efor_row, eneg_row, infix_row, econs_row, etuple_row, eset_row, eif_row, eseq_row, elet_row, ematch_row, etry_row, efun_row, efunction_row}
+use Rattle.tree_model.specs.Rows.{Row, type_row, exception_row, decl_row, head_row, alias_row, variant_row, record_row, con_row, label_row, tvar_row, tcon_row, tparen_row, tapp_row, ttuple_row, tarrow_row, pname_row, pany_row, pconst_row, pneg_row, pcon_row, pparen_row, plist_row, precord_row, papp_row, pcons_row, ptuple_row, por_row, pas_row, qfield_row, binding_row, case_row, ffield_row, name_row, econ_row, epath_row, econst_row, hole_row, eparen_row, ebegin_row, elist_row, erecord_row, prefix_row, field_row, eapp_row, eassert_row, ewhile_row, efor_row, eneg_row, infix_row, econs_row, etuple_row, eset_row, eif_row, eseq_row, elet_row, ematch_row, etry_row, efun_row, efunction_row}
 use Rattle.query_model.specs.Outlines.{is_slot}
 use Rattle.query_model.specs.TypedNodes.{Typed}
 use Rattle.type_model.specs.Types.{Typ}
@@ -20,7 +20,20 @@ use Rattle.scope_laws.proofs.HeardPatterns.{HeardPattern, pattern_into, over_hea
 use Rattle.scope_laws.proofs.HeardExpressions as expressions
 use Rattle.scope_laws.proofs.HeardExpressions.{IsUnread, HeardExpression, eparen_heard, ebegin_heard, elist_heard, etuple_heard, eseq_heard, econs_heard, eapp_heard, infix_heard, prefix_heard, eneg_heard, efield_heard, eset_heard, eassert_heard, eif_heard, ewhile_heard, efor_heard}
 use Rattle.scope_laws.proofs.HeardRecords.{HeardField, field_heard, erecord_heard, eupdate_heard, HeardCase, case_heard, ematch_heard, etry_heard, efunction_heard, efun_heard, HeardBinding, binding_heard, elet_heard}
-use Rattle.scope_laws.specs.Sorts.{Sort, an_expression, a_pattern, a_constructor, a_type, a_binding, a_case, a_field, a_field_pattern, no_sort, slots_of, sort_among, sort_in, is_of}
+use Rattle.scope_laws.specs.Sorts.{Sort, an_expression, a_pattern, a_constructor, a_type, a_binding, a_case, a_field, a_field_pattern, a_declaration, a_head, a_right_side, a_kind, a_declared_constructor, a_declared_label, no_sort, slots_of, sort_among, sort_in, is_of}
+
+-- the rows of declarations of types and exceptions, and of their parts
+abbrev pub is_declared : Row → Bool
+is_declared type_row = true
+is_declared exception_row = true
+is_declared decl_row = true
+is_declared head_row = true
+is_declared alias_row = true
+is_declared variant_row = true
+is_declared record_row = true
+is_declared con_row = true
+is_declared label_row = true
+is_declared _ = false
 
 -- a part tells typed nodes where it is asked as what it is
 abbrev pub HeardAs : Sort → List Typed → Child → Type 0
@@ -32,6 +45,12 @@ HeardAs a_binding ts x = MayBe HeardBinding ts x.binding
 HeardAs a_case ts x = MayBe HeardCase ts x.case
 HeardAs a_field ts x = MayBe HeardField ts x.field
 HeardAs a_field_pattern ts x = MayBe HeardFieldPattern ts x.field_pattern
+HeardAs a_declaration ts x = AlwaysTells ts []
+HeardAs a_head ts x = AlwaysTells ts []
+HeardAs a_right_side ts x = AlwaysTells ts []
+HeardAs a_kind ts x = AlwaysTells ts []
+HeardAs a_declared_constructor ts x = AlwaysTells ts []
+HeardAs a_declared_label ts x = AlwaysTells ts []
 HeardAs no_sort ts x = AlwaysTells ts []
 
 -- a part of a row is what its slot takes, and in the slot of a label a path is read as one
@@ -134,12 +153,16 @@ once_mapped f (x ∷ y ∷ ys) h = h
 
 -- what stands in a slot of a row, by the slot's sort
 module _ {label : Option ℕ} {ts : List Typed} {cs : List Child} (r : Row) (h : Heards (HeardChild r label) ts cs) (s : ℕ) where
-  pub type_slot : sort_in r s ≡ a_type → AlwaysTells (slot_nodes s h) []
-  type_slot e = by (subst (λ k. Heards (HeardAs k) (slot_nodes s h) (in_slot s cs)) e (in_slot_heard r s h))
+  -- a sort whose parts have no typed nodes
+  pub bare_slot : (k : Sort) → ((us : List Typed) (x : Child) → HeardAs k us x → AlwaysTells us []) → sort_in r s ≡ k → AlwaysTells (slot_nodes s h) []
+  bare_slot k bare e = by (subst (λ k. Heards (HeardAs k) (slot_nodes s h) (in_slot s cs)) e (in_slot_heard r s h))
     where
-      by : {us : List Typed} {xs : List Child} → Heards (HeardAs a_type) us xs → AlwaysTells us []
+      by : {us : List Typed} {xs : List Child} → Heards (HeardAs k) us xs → AlwaysTells us []
       by no_one = λ types. nothing
-      by (one_and q rest) = λ types. both (q types) (by rest types)
+      by (one_and {ts = vs} {x = x} q rest) = λ types. both (bare vs x q types) (by rest types)
+
+  pub type_slot : sort_in r s ≡ a_type → AlwaysTells (slot_nodes s h) []
+  type_slot e = bare_slot a_type (λ us x q. q) e
 
   pub expressions_slot : sort_in r s ≡ an_expression → Heards HeardExpression (slot_nodes s h) (expressions_in s cs)
   expressions_slot e = heards_as (λ c. c.expression) (λ us x q. q) (subst (λ k. Heards (HeardAs k) (slot_nodes s h) (in_slot s cs)) e (in_slot_heard r s h))
@@ -347,6 +370,19 @@ type_row_heard tapp_row h is = λ types. covered tapp_row h [] ((type_slot tapp_
 type_row_heard ttuple_row h is = λ types. covered ttuple_row h [] ((type_slot ttuple_row h 0 refl types).all, ((type_slot ttuple_row h 2 refl types).all, tt))
 type_row_heard tarrow_row h is = λ types. covered tarrow_row h [] ((type_slot tarrow_row h 0 refl types).all, ((type_slot tarrow_row h 2 refl types).all, tt))
 type_row_heard _ h is = absurd (no_yes is)
+
+-- nor has any part of a declaration
+pub declared_row_heard : {label : Option ℕ} {ts : List Typed} {cs : List Child} (r : Row) (h : Heards (HeardChild r label) ts cs) → is_declared r ≡ true → AlwaysTells ts []
+declared_row_heard type_row h is = λ types. covered type_row h [] ((bare_slot type_row h 2 a_declaration (λ us x q. q) refl types).all, tt)
+declared_row_heard exception_row h is = λ types. covered exception_row h [] ((bare_slot exception_row h 1 a_declared_constructor (λ us x q. q) refl types).all, tt)
+declared_row_heard decl_row h is = λ types. covered decl_row h [] ((bare_slot decl_row h 0 a_head (λ us x q. q) refl types).all, ((bare_slot decl_row h 2 a_right_side (λ us x q. q) refl types).all, tt))
+declared_row_heard head_row h is = λ types. covered head_row h [] tt
+declared_row_heard alias_row h is = λ types. covered alias_row h [] ((type_slot alias_row h 0 refl types).all, ((bare_slot alias_row h 2 a_kind (λ us x q. q) refl types).all, tt))
+declared_row_heard variant_row h is = λ types. covered variant_row h [] ((bare_slot variant_row h 1 a_declared_constructor (λ us x q. q) refl types).all, tt)
+declared_row_heard record_row h is = λ types. covered record_row h [] ((bare_slot record_row h 1 a_declared_label (λ us x q. q) refl types).all, tt)
+declared_row_heard con_row h is = λ types. covered con_row h [] ((type_slot con_row h 2 refl types).all, tt)
+declared_row_heard label_row h is = λ types. covered label_row h [] ((type_slot label_row h 3 refl types).all, tt)
+declared_row_heard _ h is = absurd (no_yes is)
 
 -- a binding, a case and a field by their rows
 pub binding_row_heard : {label : Option ℕ} {ts : List Typed} {cs : List Child} (r : Row) (n : ℕ) (h : Heards (HeardChild r label) ts cs) → Once r cs → is_of a_binding r ≡ true → MayBe HeardBinding ts (binding_of r n cs)

@@ -1,4 +1,4 @@
--- The items of a program that the parser gives are trees whose parts are of the sorts of their slots, where they are `let` and `;;`.
+-- The items of a program that the parser gives are trees whose parts are of the sorts of their slots, where there is no module among them.
 use Rattle.std.proofs.Common.{◌≡◌, ◌∙◌, ◌⊎◌, inl, inr, ℕ, ◌==◌, ◌≤◌, Bool, true, false, ◌&&◌, ◌||◌, List, refl, sym, subst, arith, if◌then◌else◌}
 use Rattle.std.specs.Prelude.{slice_get, nat_le}
 use Rattle.std.proofs.lemmas.Bool.{eqb-true, eq-eqb, leb-true, le-leb, and_parts}
@@ -12,24 +12,24 @@ use Rattle.grammar_model.specs.Rows.{Left, no_left, level, named as by_name, Row
 use Rattle.grammar_model.specs.Checks.{each, each_spot, each_edge}
 use Rattle.grammar_model.specs.Grammar.{last_in, left_last, StandsIn, BeginsWith, WellFormed, IsFilled, Follows, IsPartFormed}
 use Rattle.grammar_model.specs.Named.{slot_of, named, named_parts, named_part, forest_items, items_of}
-use Rattle.grammar_model.specs.Words.{row_names, expression, pattern, type_expression, binding, case, field, field_pattern, pcon_name}
+use Rattle.grammar_model.specs.Words.{row_names, expression, pattern, type_expression, binding, case, declaration, head, right_side, type_kind, constructor, label, field, field_pattern, pcon_name}
 use Rattle.grammar_model.specs.Ocaml.{rows, Text, program_text, grammar, row_name}
 use Rattle.grammar_laws.proofs.Instance.{each_row, spot_get}
 use Rattle.recovery_model.specs.Recovery.{recover}
 use Rattle.recovery_laws.proofs.Promises.{well_formed}
 use Rattle.typing_model.specs.First.{program_items}
-use Rattle.typing_model.specs.Plain.{is_let_row, has_lets_alone}
+use Rattle.typing_model.specs.Plain.{is_plain_row, has_no_modules}
 use Rattle.typing_laws.proofs.Bools.{no_yes, and_cases}
 use Rattle.operand_laws.specs.Formed.{is_in}
 use Rattle.operand_laws.proofs.Ordered.{in_order}
 use Rattle.operand_laws.proofs.Needed.{edge_passes}
-use Rattle.scope_laws.specs.Sorts.{Sort, an_expression, a_pattern, a_constructor, a_type, a_binding, a_case, a_field, a_field_pattern, no_sort, sort_in, is_of, IsApart, IsSorted, AreSorted, IsPartSorted, AreItemsSorted}
+use Rattle.scope_laws.specs.Sorts.{Sort, an_expression, a_pattern, a_constructor, a_type, a_binding, a_case, a_field, a_field_pattern, a_declaration, a_head, a_right_side, a_kind, a_declared_constructor, a_declared_label, no_sort, sort_in, is_of, IsApart, IsSorted, AreSorted, IsPartSorted, AreItemsSorted}
 
 -- the name of a row
 abbrev name_of : Row → names.Row
 name_of w = or_else names.program_row (slice_get row_names w.name)
 
--- the number of a sort in the table; that of a head, and that of no sort, are none of it
+-- the number of a sort in the table; that of the head of a pattern, and that of no sort, are none of it
 abbrev sort_number : Sort → ℕ
 sort_number an_expression = expression
 sort_number a_pattern = pattern
@@ -39,6 +39,12 @@ sort_number a_binding = binding
 sort_number a_case = case
 sort_number a_field = field
 sort_number a_field_pattern = field_pattern
+sort_number a_declaration = declaration
+sort_number a_head = head
+sort_number a_right_side = right_side
+sort_number a_kind = type_kind
+sort_number a_declared_constructor = constructor
+sort_number a_declared_label = label
 sort_number no_sort = 101
 
 -- where a row is of a sort, so is its name
@@ -56,6 +62,12 @@ each_name_fits a_binding = refl
 each_name_fits a_case = refl
 each_name_fits a_field = refl
 each_name_fits a_field_pattern = refl
+each_name_fits a_declaration = refl
+each_name_fits a_head = refl
+each_name_fits a_right_side = refl
+each_name_fits a_kind = refl
+each_name_fits a_declared_constructor = refl
+each_name_fits a_declared_label = refl
 each_name_fits no_sort = refl
 
 -- and of what stands for no row
@@ -68,6 +80,12 @@ no_row_fits a_binding i = refl
 no_row_fits a_case i = refl
 no_row_fits a_field i = refl
 no_row_fits a_field_pattern i = refl
+no_row_fits a_declaration i = refl
+no_row_fits a_head i = refl
+no_row_fits a_right_side i = refl
+no_row_fits a_kind i = refl
+no_row_fits a_declared_constructor i = refl
+no_row_fits a_declared_label i = refl
 no_row_fits no_sort i = refl
 
 -- what follows from a test that holds
@@ -80,13 +98,14 @@ row_of_sort : (text : Text) (k : Sort) (r : ℕ) → (grammar text).sort r ≡ s
 row_of_sort text k r e =
     then_of ((grammar text).sort r == sort_number k) (is_of k (row_name r)) (eq-eqb ((grammar text).sort r) (sort_number k) e) (each_row (name_fits k) rows (each_name_fits k) (no_row_fits k) r)
 
--- the table's sorts of what stands in a `let`
+-- the table's sorts of what stands in a `let`, a declaration of types or an exception
 abbrev is_inside : ℕ → Bool
-is_inside s = s == expression || s == pattern || s == type_expression || s == binding || s == case || s == field || s == field_pattern
+is_inside s = s == expression || s == pattern || s == type_expression || s == binding || s == case || s == field || s == field_pattern ||
+    s == declaration || s == head || s == right_side || s == type_kind || s == constructor || s == label
 
--- a row of such a sort, or of an item that is a `let` or `;;`
+-- a row of such a sort, or of an item that is no module
 abbrev is_known : Row → Bool
-is_known w = is_inside w.sort || is_let_row (name_of w)
+is_known w = is_inside w.sort || is_plain_row (name_of w)
 
 -- an operand has the sort of its slot
 abbrev spot_fits : names.Row → ℕ → What → Bool
@@ -184,6 +203,12 @@ left_has text r k (inner t) h fits = by k fits
     by a_case fits = usual a_case fits
     by a_field fits = usual a_field fits
     by a_field_pattern fits = usual a_field_pattern fits
+    by a_declaration fits = usual a_declaration fits
+    by a_head fits = usual a_head fits
+    by a_right_side fits = usual a_right_side fits
+    by a_kind fits = usual a_kind fits
+    by a_declared_constructor fits = usual a_declared_constructor fits
+    by a_declared_label fits = usual a_declared_label fits
     by no_sort fits = usual no_sort fits
 left_has text r k (missing at) h fits = tt
 
@@ -304,39 +329,39 @@ mutual
   part_sorted text k (inner (node r f)) h e = (e.0, sorted text (node r f) h (known_inside (row_at rows r) e.1))
   part_sorted text k (missing at) h e = tt
 
--- the row of a `let` is known
-known_let : (w : Row) → is_let_row (name_of w) ≡ true → is_known w ≡ true
-known_let w h = rw (h) (or_true (is_inside w.sort))
+-- the row of such an item is known
+known_item : (w : Row) → is_plain_row (name_of w) ≡ true → is_known w ≡ true
+known_item w h = rw (h) (or_true (is_inside w.sort))
   where
     or_true : (b : Bool) → (b || true) ≡ true
     or_true true = refl
     or_true false = refl
 
 -- one item more
-item_more : (text : Text) (p : ℕ) (c : Part) (ps : plain.Forest) → IsPartFormed (grammar text) c → has_lets_alone (forest_items (plain.part (slot_of p) (named_part row_name c) ps)) ≡ true → (has_lets_alone (forest_items ps) ≡ true → AreItemsSorted (forest_items ps)) →
+item_more : (text : Text) (p : ℕ) (c : Part) (ps : plain.Forest) → IsPartFormed (grammar text) c → has_no_modules (forest_items (plain.part (slot_of p) (named_part row_name c) ps)) ≡ true → (has_no_modules (forest_items ps) ≡ true → AreItemsSorted (forest_items ps)) →
     AreItemsSorted (forest_items (plain.part (slot_of p) (named_part row_name c) ps))
-item_more text p (taken t) ps h lets rest = rest lets
-item_more text p (inner (node r f)) ps h lets rest =
-    let both = and_cases (is_let_row (row_name r)) (has_lets_alone (forest_items ps)) lets in
-    (sorted text (node r f) h (known_let (row_at rows r) both.0), rest both.1)
-item_more text p (missing at) ps h lets rest = rest lets
+item_more text p (taken t) ps h none rest = rest none
+item_more text p (inner (node r f)) ps h none rest =
+    let both = and_cases (is_plain_row (row_name r)) (has_no_modules (forest_items ps)) none in
+    (sorted text (node r f) h (known_item (row_at rows r) both.0), rest both.1)
+item_more text p (missing at) ps h none rest = rest none
 
 -- the items behind a spot
-items_follow : (text : Text) (at : ℕ) (last : Last) (f : Forest) → Follows (grammar text) 0 at last f → has_lets_alone (forest_items (named_parts row_name f)) ≡ true → AreItemsSorted (forest_items (named_parts row_name f))
-items_follow text at last no_parts h lets = tt
-items_follow text at last (part p c f) h lets = item_more text p c (named_parts row_name f) h.2 lets (items_follow text p (last_in ((grammar text).what 0 p) c) f h.3)
+items_follow : (text : Text) (at : ℕ) (last : Last) (f : Forest) → Follows (grammar text) 0 at last f → has_no_modules (forest_items (named_parts row_name f)) ≡ true → AreItemsSorted (forest_items (named_parts row_name f))
+items_follow text at last no_parts h none = tt
+items_follow text at last (part p c f) h none = item_more text p c (named_parts row_name f) h.2 none (items_follow text p (last_in ((grammar text).what 0 p) c) f h.3)
 
 -- all items
-items_filled : (text : Text) (f : Forest) → IsFilled (grammar text) 0 f → has_lets_alone (forest_items (named_parts row_name f)) ≡ true → AreItemsSorted (forest_items (named_parts row_name f))
-items_filled text no_parts h lets = tt
-items_filled text (part p c f) h lets = item_more text p c (named_parts row_name f) h.1 lets (items_follow text p (last_in ((grammar text).what 0 p) c) f h.2)
+items_filled : (text : Text) (f : Forest) → IsFilled (grammar text) 0 f → has_no_modules (forest_items (named_parts row_name f)) ≡ true → AreItemsSorted (forest_items (named_parts row_name f))
+items_filled text no_parts h none = tt
+items_filled text (part p c f) h none = item_more text p c (named_parts row_name f) h.1 none (items_follow text p (last_in ((grammar text).what 0 p) c) f h.2)
 
 -- the items of a tree
-tree_items : (text : Text) (T : Tree) → row_of T ≡ 0 → WellFormed (grammar text) T → has_lets_alone (items_of (named row_name T)) ≡ true → AreItemsSorted (items_of (named row_name T))
-tree_items text (node r f) root h lets = items_filled text f (subst (λ r. IsFilled (grammar text) r f) root h) lets
+tree_items : (text : Text) (T : Tree) → row_of T ≡ 0 → WellFormed (grammar text) T → has_no_modules (items_of (named row_name T)) ≡ true → AreItemsSorted (items_of (named row_name T))
+tree_items text (node r f) root h none = items_filled text f (subst (λ r. IsFilled (grammar text) r f) root h) none
 
--- the items of a program that the parser gives, where they are `let` and `;;` alone
-pub program_sorted : (ts : List Tok) → has_lets_alone (program_items ts) ≡ true → AreItemsSorted (program_items ts)
-program_sorted ts lets =
+-- the items of a program that the parser gives, where none of them is a module
+pub program_sorted : (ts : List Tok) → has_no_modules (program_items ts) ≡ true → AreItemsSorted (program_items ts)
+program_sorted ts none =
     let T : Tree = (recover (grammar program_text) ts).0 in
-    tree_items program_text T (well_formed program_text ts).root (well_formed program_text ts).formed lets
+    tree_items program_text T (well_formed program_text ts).root (well_formed program_text ts).formed none

@@ -1,10 +1,10 @@
--- Each typed node of a text of `let` and `;;` is told with its type.
+-- Each typed node of a text without modules is told with its type.
 use Rattle.std.proofs.Common.{◌≡◌, ◌∙◌, inl, inr, ℕ, ◌+◌, ◌<◌, ◌≤◌, ◌==◌, Bool, true, false, ◌&&◌, ◌||◌, not, List, [], ◌∷◌, ◌++◌, Option, Some, None, refl, sym, ap, subst, arith, if◌then◌else◌}
 use Rattle.std.specs.Prelude.{slice_get, nat_eq, nat_le}
 use Rattle.std.specs.List.{list_any, list_all}
 use Rattle.std.proofs.lemmas.Bool.{eqb-true, leb-true, and_parts}
 use Rattle.token_model.specs.Kinds.{Tok}
-use Rattle.tree_model.specs.Rows.{Row, program_row, let_row, break_row, tvar_row, tcon_row, tparen_row, tapp_row, ttuple_row, tarrow_row, qfield_row, binding_row, case_row, ffield_row, erecord_row}
+use Rattle.tree_model.specs.Rows.{Row, program_row, let_row, type_row, exception_row, break_row, decl_row, head_row, alias_row, variant_row, record_row, con_row, label_row, tvar_row, tcon_row, tparen_row, tapp_row, ttuple_row, tarrow_row, qfield_row, binding_row, case_row, ffield_row, erecord_row}
 use Rattle.tree_model.specs.Slots.{is_operand}
 use Rattle.tree_model.specs.Trees.{Place, Tree, Forest, Part, node, no_parts, part, taken, inner, missing, part_size, part_yield}
 use Rattle.tree_model.specs.Nodes.{id, holds}
@@ -22,21 +22,22 @@ use Rattle.typing_model.specs.Modules.{item_row}
 use Rattle.typing_model.specs.Meanings.{binding_of, case_of, field_of, field_pattern_of, recorded_expression, recorded_pattern, recorded_item, node_child, leaf_child, children_of, child_of, tree_child, item_base, items_from}
 use Rattle.typing_model.specs.Typings.{outermost, conditions_of}
 use Rattle.typing_model.specs.First.{program_items}
-use Rattle.typing_model.specs.Plain.{is_let_row, has_lets_alone}
+use Rattle.typing_model.specs.Plain.{is_plain_row, has_no_modules, has_lets_alone}
 use Rattle.typed_model.specs.Shown.{number_of, IsToldTyped}
 use Rattle.typing_laws.proofs.Bools.{no_yes, and_cases}
+use Rattle.typing_laws.proofs.Settled.{lets_plain}
 use Rattle.operand_laws.specs.Formed.{row_of, may_repeat, next_slot, is_in, is_in_order}
 use Rattle.operand_laws.proofs.Children.{slot_children}
 use Rattle.operand_laws.proofs.Standing.{expression_row_stands}
-use Rattle.scope_laws.proofs.Heard.{types_in, told_first, told_among, Tells, AlwaysTells, nothing, left, skip, both, join, AreAt, at_told, Heards, no_one, one_and, MayBe, absent, there, AtMostOne}
+use Rattle.scope_laws.proofs.Heard.{types_in, told_first, told_among, Tells, AlwaysTells, nothing, untold, left, skip, both, join, AreAt, at_told, Heards, no_one, one_and, MayBe, absent, there, AtMostOne}
 use Rattle.scope_laws.proofs.HeardPatterns.{HeardPattern, no_head, HeardFieldPattern}
 use Rattle.scope_laws.proofs.HeardPatterns as patterns
 use Rattle.scope_laws.proofs.HeardExpressions.{IsUnread, HeardExpression, head_too}
 use Rattle.scope_laws.proofs.HeardExpressions as expressions
 use Rattle.scope_laws.proofs.HeardRecords.{HeardField, HeardCase, HeardBinding, bindings_heard}
-use Rattle.scope_laws.proofs.HeardRows.{HeardAs, HeardChild, covered, bindings_slot, Once, RecordApart, expression_row_heard, pattern_row_heard, type_row_heard, binding_row_heard, case_row_heard, field_row_heard, field_pattern_row_heard, constructor_row_heard}
+use Rattle.scope_laws.proofs.HeardRows.{is_declared, HeardAs, HeardChild, covered, bindings_slot, Once, RecordApart, expression_row_heard, pattern_row_heard, type_row_heard, declared_row_heard, binding_row_heard, case_row_heard, field_row_heard, field_pattern_row_heard, constructor_row_heard}
 use Rattle.scope_laws.proofs.Labels.{none_taken, path_row, unread}
-use Rattle.scope_laws.specs.Sorts.{Sort, an_expression, a_pattern, a_constructor, a_type, a_binding, a_case, a_field, a_field_pattern, no_sort, sort_in, is_of, IsApart, IsSorted, AreSorted, IsPartSorted, AreItemsSorted}
+use Rattle.scope_laws.specs.Sorts.{Sort, an_expression, a_pattern, a_constructor, a_type, a_binding, a_case, a_field, a_field_pattern, a_declaration, a_head, a_right_side, a_kind, a_declared_constructor, a_declared_label, no_sort, sort_in, is_kind_row, is_of, IsApart, IsSorted, AreSorted, IsPartSorted, AreItemsSorted}
 use Rattle.scope_laws.proofs.ParsedSorts.{program_sorted}
 
 -- the slot after one isn't lower
@@ -186,12 +187,60 @@ unfolding is_typed_row
 untyped_field_pattern qfield_row is = refl
 untyped_field_pattern _ is = absurd (no_yes is)
 
--- nor a `let` of an item
-untyped_let : (r : Row) → is_let_row r ≡ true → is_typed_row r ≡ false
+-- nor an item
+untyped_item : (r : Row) → is_plain_row r ≡ true → is_typed_row r ≡ false
 unfolding is_typed_row
-untyped_let let_row is = refl
-untyped_let break_row is = refl
-untyped_let _ is = absurd (no_yes is)
+untyped_item let_row is = refl
+untyped_item type_row is = refl
+untyped_item exception_row is = refl
+untyped_item break_row is = refl
+untyped_item _ is = absurd (no_yes is)
+
+-- nor a part of a declaration
+untyped_declared : (r : Row) → is_declared r ≡ true → is_typed_row r ≡ false
+unfolding is_typed_row
+untyped_declared type_row is = refl
+untyped_declared exception_row is = refl
+untyped_declared decl_row is = refl
+untyped_declared head_row is = refl
+untyped_declared alias_row is = refl
+untyped_declared variant_row is = refl
+untyped_declared record_row is = refl
+untyped_declared con_row is = refl
+untyped_declared label_row is = refl
+untyped_declared _ is = absurd (no_yes is)
+
+-- the rows of parts of declarations are such rows
+kind_declared : (r : Row) → is_kind_row r ≡ true → is_declared r ≡ true
+kind_declared variant_row is = refl
+kind_declared record_row is = refl
+kind_declared _ is = absurd (no_yes is)
+
+right_declared : (r : Row) → is_of a_right_side r ≡ true → is_declared r ≡ true
+right_declared alias_row is = refl
+right_declared variant_row is = refl
+right_declared record_row is = refl
+right_declared _ is = absurd (no_yes is)
+
+declaration_declared : (r : Row) → is_of a_declaration r ≡ true → is_declared r ≡ true
+declaration_declared decl_row is = refl
+declaration_declared _ is = absurd (no_yes is)
+
+head_declared : (r : Row) → is_of a_head r ≡ true → is_declared r ≡ true
+head_declared head_row is = refl
+head_declared _ is = absurd (no_yes is)
+
+constructor_declared : (r : Row) → is_of a_declared_constructor r ≡ true → is_declared r ≡ true
+constructor_declared con_row is = refl
+constructor_declared _ is = absurd (no_yes is)
+
+label_declared : (r : Row) → is_of a_declared_label r ≡ true → is_declared r ≡ true
+label_declared label_row is = refl
+label_declared _ is = absurd (no_yes is)
+
+-- so a part of a declaration has no typed nodes
+declared_heard : {label : Option ℕ} {ts : List Typed} {cs : List Child} (own : List Typed) (r : Row) → (is_typed_row r ≡ false → own ≡ []) → Heards (HeardChild r label) ts cs → is_declared r ≡ true → AlwaysTells (own ++ ts) []
+declared_heard {ts = ts} own r none h is = subst (λ us. AlwaysTells (us ++ ts) []) (sym (none (untyped_declared r is))) (declared_row_heard r h is)
 
 -- a node over its parts
 node_heard : {label : Option ℕ} {ts : List Typed} {cs : List Child} (own : List Typed) (k : Sort) (r : Row) (slot : ℕ) (p : Part) (n : ℕ) (q : Place) → AreAt n own → (is_typed_row r ≡ false → own ≡ []) → (h : Heards (HeardChild r label) ts cs) → Once r cs → RecordApart r label cs → is_of k r ≡ true →
@@ -204,6 +253,12 @@ node_heard {ts = ts} {cs = cs} own a_binding r slot p n q at none h once apart i
 node_heard {ts = ts} {cs = cs} own a_case r slot p n q at none h once apart is = subst (λ us. MayBe HeardCase (us ++ ts) (case_of r n cs)) (sym (none (untyped_case r is))) (case_row_heard r n h once is)
 node_heard {ts = ts} {cs = cs} own a_field r slot p n q at none h once apart is = subst (λ us. MayBe HeardField (us ++ ts) (field_of r n cs)) (sym (none (untyped_field r is))) (field_row_heard r n h once is)
 node_heard {ts = ts} {cs = cs} own a_field_pattern r slot p n q at none h once apart is = subst (λ us. MayBe HeardFieldPattern (us ++ ts) (field_pattern_of r n cs)) (sym (none (untyped_field_pattern r is))) (field_pattern_row_heard r n h once is)
+node_heard own a_declaration r slot p n q at none h once apart is = declared_heard own r none h (declaration_declared r is)
+node_heard own a_head r slot p n q at none h once apart is = declared_heard own r none h (head_declared r is)
+node_heard own a_right_side r slot p n q at none h once apart is = declared_heard own r none h (right_declared r is)
+node_heard own a_kind r slot p n q at none h once apart is = declared_heard own r none h (kind_declared r is)
+node_heard own a_declared_constructor r slot p n q at none h once apart is = declared_heard own r none h (constructor_declared r is)
+node_heard own a_declared_label r slot p n q at none h once apart is = declared_heard own r none h (label_declared r is)
 node_heard own no_sort r slot p n q at none h once apart is = absurd (no_yes is)
 
 -- a part that is none has no typed nodes
@@ -216,6 +271,12 @@ leaf_heard a_binding slot p n q = absent
 leaf_heard a_case slot p n q = absent
 leaf_heard a_field slot p n q = absent
 leaf_heard a_field_pattern slot p n q = absent
+leaf_heard a_declaration slot p n q = λ types. nothing
+leaf_heard a_head slot p n q = λ types. nothing
+leaf_heard a_right_side slot p n q = λ types. nothing
+leaf_heard a_kind slot p n q = λ types. nothing
+leaf_heard a_declared_constructor slot p n q = λ types. nothing
+leaf_heard a_declared_label slot p n q = λ types. nothing
 leaf_heard no_sort slot p n q = λ types. nothing
 
 -- but for an expression that is missing
@@ -264,27 +325,29 @@ mutual
 record HeardItem (ts : List Typed) (m : Item) : Type 0 where
   pub asks : (c : Context) (seen : Seen) → Tells (types_in c) ts (m.asks c seen)
 
--- a `let` tells the typed nodes of its bindings
-item_row_heard : {label : Option ℕ} {ts : List Typed} {cs : List Child} (r : Row) (n : ℕ) (q : Place) (ks : List Tok) (h : Heards (HeardChild r label) ts cs) → is_let_row r ≡ true → MayBe HeardItem ts (recorded_item n (item_row r n q ks cs))
+-- a `let` tells the typed nodes of its bindings, and a declaration has none
+item_row_heard : {label : Option ℕ} {ts : List Typed} {cs : List Child} (r : Row) (n : ℕ) (q : Place) (ks : List Tok) (h : Heards (HeardChild r label) ts cs) → is_plain_row r ≡ true → MayBe HeardItem ts (recorded_item n (item_row r n q ks cs))
 unfolding item_row
 item_row_heard {ts = ts} {cs = cs} let_row n q ks h is = there (record {
   asks = λ c seen.
       let inside : Context = inside_item n ks c in
       covered let_row h _ ((skip {c = treated n c.env} (left (names_made n inside (names_of_group (bindings_in 2 cs))) (bindings_heard inside (is_some (token_in 1 cs)) (bindings_slot let_row h 2 refl)))).all, tt);
 })
+item_row_heard type_row n q ks h is = there (record { asks = λ c seen. untold (declared_row_heard type_row h refl) })
+item_row_heard exception_row n q ks h is = there (record { asks = λ c seen. untold (declared_row_heard exception_row h refl) })
 item_row_heard break_row n q ks h is = there (record { asks = λ c seen. covered break_row h _ tt })
 item_row_heard _ n q ks h is = absurd (no_yes is)
 
 -- items in order
-items_heard : (o i : ℕ) (ts : List Tree) → has_lets_alone ts ≡ true → AreItemsSorted ts → (c : Context) (seen : Seen) → Tells (types_in c) (typed_items o i ts) (items_ask c seen (items_from i ts))
-items_heard o i [] lets h c seen = nothing
-items_heard o i (node r x ps ∷ ts) lets h c seen =
-    let (first, others) = and_cases (is_let_row r) (has_lets_alone ts) lets in
+items_heard : (o i : ℕ) (ts : List Tree) → has_no_modules ts ≡ true → AreItemsSorted ts → (c : Context) (seen : Seen) → Tells (types_in c) (typed_items o i ts) (items_ask c seen (items_from i ts))
+items_heard o i [] none h c seen = nothing
+items_heard o i (node r x ps ∷ ts) none h c seen =
+    let (first, others) = and_cases (is_plain_row r) (has_no_modules ts) none in
     let (order, apart, parts) = h.0 in
     let e : item_base i + 1 ≡ item_base i + 1 = refl in
-    let none = own_none (is_typed_row r) (not (false && has_name_in (last_name_slot r) ps)) o i 0 x.span (untyped_let r first) in
+    let bare = own_none (is_typed_row r) (not (false && has_name_in (last_name_slot r) ps)) o i 0 x.span (untyped_item r first) in
     let heard = item_row_heard r (item_base i) x.span (part_yield (inner (node r x ps))) (forest_heard r o i 1 (item_base i + 1) (label_slot r (has_taken_in 4 ps)) ps e parts) first in
-    by (typed_in o i 0 false (node r x ps)) (tree_child (item_base i) 0 (node r x ps)).item (subst (λ us. MayBe HeardItem (us ++ typed_among o i 1 r (label_slot r (has_taken_in 4 ps)) ps) (recorded_item (item_base i) (item_row r (item_base i) x.span (part_yield (inner (node r x ps))) (children_of (item_base i + 1) r ps)))) (sym none) heard)
+    by (typed_in o i 0 false (node r x ps)) (tree_child (item_base i) 0 (node r x ps)).item (subst (λ us. MayBe HeardItem (us ++ typed_among o i 1 r (label_slot r (has_taken_in 4 ps)) ps) (recorded_item (item_base i) (item_row r (item_base i) x.span (part_yield (inner (node r x ps))) (children_of (item_base i + 1) r ps)))) (sym bare) heard)
     (λ d s. items_heard o (i + 1) ts others h.1 (under d c) s)
   where
     by : (us : List Typed) (m : Option Item) → MayBe HeardItem us m → ((d : Environment) (s : Seen) → Tells (types_in c) (typed_items o (i + 1) ts) (items_ask (under d c) s (items_from (i + 1) ts))) →
@@ -292,10 +355,15 @@ items_heard o i (node r x ps ∷ ts) lets h c seen =
     by us None absent later = later c.env seen
     by us (Some m) (there s) later = join (s.asks c seen) (later (m.adds c ++ c.env) (seen_too seen (m.named c)))
 
--- Each typed node of a program of `let` and `;;` that the parser gives is treated in some environment, and is told there with the type that the choice gives it.
+-- Each typed node of a program without modules that the parser gives is treated in some environment, and is told there with the type that the choice gives it.
+pub plain_nodes_are_typed : (env : Environment) (tokens : List Tok) (kept : Site → Bool) (ch : Choice) → has_no_modules (program_items tokens) ≡ true → (o k : ℕ) (t : Typed) → slice_get (typed_at o (program_items tokens)) k ≡ Some t →
+    (E : Environment) × IsToldTyped (number_of t.id) E (ch.type_at (number_of t.id)) (conditions_of env (program_items tokens) kept ch)
+plain_nodes_are_typed env tokens kept ch none o k t e =
+    let items : List Tree = program_items tokens in
+    let found = told_among ch.type_at (typed_at o items) (conditions_of env items kept ch) k t (items_heard o 1 items none (program_sorted tokens none) (outermost env kept ch) no_names).all e in
+    (found.env, found.told)
+
+-- and so is each of a program of `let` and `;;`.
 pub typed_nodes_are_typed : (env : Environment) (tokens : List Tok) (kept : Site → Bool) (ch : Choice) → has_lets_alone (program_items tokens) ≡ true → (o k : ℕ) (t : Typed) → slice_get (typed_at o (program_items tokens)) k ≡ Some t →
     (E : Environment) × IsToldTyped (number_of t.id) E (ch.type_at (number_of t.id)) (conditions_of env (program_items tokens) kept ch)
-typed_nodes_are_typed env tokens kept ch lets o k t e =
-    let items : List Tree = program_items tokens in
-    let found = told_among ch.type_at (typed_at o items) (conditions_of env items kept ch) k t (items_heard o 1 items lets (program_sorted tokens lets) (outermost env kept ch) no_names).all e in
-    (found.env, found.told)
+typed_nodes_are_typed env tokens kept ch lets o k t e = plain_nodes_are_typed env tokens kept ch (lets_plain (program_items tokens) lets) o k t e

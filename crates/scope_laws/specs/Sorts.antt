@@ -1,6 +1,6 @@
--- The sorts of the parts of each row that stands in a `let`, and trees whose parts are of these sorts.
+-- The sorts of the parts of each row that stands in a `let`, a declaration of types or an exception, and trees whose parts are of these sorts.
 use Rattle.std.specs.Prelude.{◌≡◌, ◌⊎◌, ℕ, ◌==◌, Bool, true, false, List, [], ◌∷◌, if◌then◌else◌}
-use Rattle.tree_model.specs.Rows.{Row, let_row, tvar_row, tcon_row, tparen_row, tapp_row, ttuple_row, tarrow_row, pname_row, pany_row, pconst_row, pneg_row, pcon_row, pparen_row, plist_row, precord_row, papp_row, pcons_row, ptuple_row, por_row, pas_row, qfield_row, binding_row, case_row, ffield_row, name_row, econ_row, epath_row, econst_row, hole_row, eparen_row, ebegin_row, elist_row, erecord_row, prefix_row, field_row, eapp_row, eassert_row, ewhile_row, efor_row, eneg_row, infix_row, econs_row, etuple_row, eset_row, eif_row, eseq_row, elet_row, ematch_row, etry_row, efun_row, efunction_row}
+use Rattle.tree_model.specs.Rows.{Row, let_row, type_row, exception_row, decl_row, head_row, alias_row, variant_row, record_row, con_row, label_row, tvar_row, tcon_row, tparen_row, tapp_row, ttuple_row, tarrow_row, pname_row, pany_row, pconst_row, pneg_row, pcon_row, pparen_row, plist_row, precord_row, papp_row, pcons_row, ptuple_row, por_row, pas_row, qfield_row, binding_row, case_row, ffield_row, name_row, econ_row, epath_row, econst_row, hole_row, eparen_row, ebegin_row, elist_row, erecord_row, prefix_row, field_row, eapp_row, eassert_row, ewhile_row, efor_row, eneg_row, infix_row, econs_row, etuple_row, eset_row, eif_row, eseq_row, elet_row, ematch_row, etry_row, efun_row, efunction_row}
 use Rattle.tree_model.specs.Trees.{Tree, Forest, Part, node, no_parts, part, taken, inner, missing}
 use Rattle.operand_laws.specs.Formed.{row_of, is_in, is_in_order}
 
@@ -14,11 +14,25 @@ pub data Sort : Type 0 where
   a_case : Sort
   a_field : Sort
   a_field_pattern : Sort
+  a_declaration : Sort
+  a_head : Sort
+  a_right_side : Sort
+  a_kind : Sort
+  a_declared_constructor : Sort
+  a_declared_label : Sort
   no_sort : Sort
 
 -- the slots of a row that take operands, each with the sort of these
 abbrev pub slots_of : Row → List (ℕ × Sort)
 slots_of let_row = (2, a_binding) ∷ []
+slots_of type_row = (2, a_declaration) ∷ []
+slots_of exception_row = (1, a_declared_constructor) ∷ []
+slots_of decl_row = (0, a_head) ∷ (2, a_right_side) ∷ []
+slots_of alias_row = (0, a_type) ∷ (2, a_kind) ∷ []
+slots_of variant_row = (1, a_declared_constructor) ∷ []
+slots_of record_row = (1, a_declared_label) ∷ []
+slots_of con_row = (2, a_type) ∷ []
+slots_of label_row = (3, a_type) ∷ []
 slots_of tparen_row = (1, a_type) ∷ []
 slots_of tapp_row = (0, a_type) ∷ []
 slots_of ttuple_row = (0, a_type) ∷ (2, a_type) ∷ []
@@ -126,6 +140,12 @@ is_type_row ttuple_row = true
 is_type_row tarrow_row = true
 is_type_row _ = false
 
+-- the rows of what is told of a type's values
+abbrev pub is_kind_row : Row → Bool
+is_kind_row variant_row = true
+is_kind_row record_row = true
+is_kind_row _ = false
+
 -- a row is of a sort
 abbrev pub is_of : Sort → Row → Bool
 is_of an_expression r = is_expression_row r
@@ -141,6 +161,17 @@ is_of a_field ffield_row = true
 is_of a_field _ = false
 is_of a_field_pattern qfield_row = true
 is_of a_field_pattern _ = false
+is_of a_declaration decl_row = true
+is_of a_declaration _ = false
+is_of a_head head_row = true
+is_of a_head _ = false
+is_of a_right_side alias_row = true
+is_of a_right_side r = is_kind_row r
+is_of a_kind r = is_kind_row r
+is_of a_declared_constructor con_row = true
+is_of a_declared_constructor _ = false
+is_of a_declared_label label_row = true
+is_of a_declared_label _ = false
 is_of no_sort r = false
 
 -- a record has the value of a first part or the word `with`, and not both

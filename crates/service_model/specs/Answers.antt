@@ -10,7 +10,7 @@ use Rattle.plain_model.specs.Plain.{Seen, plain_text, type_text}
 use Rattle.query_model.specs.NameTokens.{Name, name_round, text_names}
 use Rattle.query_model.specs.Prefixes.{is_name_prefix}
 use Rattle.query_model.specs.TypedNodes.{Typed, innermost_at, typed_at}
-use Rattle.fault_model.specs.Refused.{IsOfLets}
+use Rattle.fault_model.specs.Refused.{IsOfValues}
 use Rattle.typed_model.specs.Shown.{AreShown}
 use Rattle.service_model.specs.Requests.{Asked, tell, type_enclosing, complete_prefix, locate, occurrences, outline, errors, case_analysis, construct, Reading, asks, refused, reading}
 use Rattle.service_model.specs.Replies as said
@@ -79,7 +79,7 @@ typed_round o items = map (λ n. n.span) (reverse (typed_at o items))
 
 -- What is known of the types that are shown of the typed nodes round an offset: those of a text of `let` and `;;` are those of a principal typing, each printed with the names in scope at its node.
 abbrev pub ShownTypes : List ℕ → ℕ → List (List ℕ) → Type 0
-ShownTypes text o types = (t : IsOfLets text) → ∥ AreShown (items_in t.tokens) (reverse (typed_at o (items_in t.tokens))) types ∥₁
+ShownTypes text o types = (t : IsOfValues text) → ∥ AreShown (items_in t.tokens) (reverse (typed_at o (items_in t.tokens))) types ∥₁
 
 -- what is said of the typed nodes of these items that hold an offset: each place, and a type, which stays open, but for what `ShownTypes` says
 abbrev pub TypesAre : List ℕ → ℕ → List Tree → said.Said → Type 0

@@ -19,10 +19,10 @@ use Rattle.construct_terms.specs.Terms.{IsAt}
 use Rattle.frame_parser.specs.declared.whole.Parsed.{Parsed}
 use Rattle.json_lines.specs.Means.{said_of}
 use Rattle.json_lines.specs.declared.reply.Reply.{Reply}
-use Rattle.session.specs.Changes.{changes_in, is_said, FitsText, IsPlaced, IsSaidAlone, IsSaidOf}
+use Rattle.text_changes.specs.Changes.{changes_in, is_said, FitsText, IsPlaced, IsSaidAlone, IsSaidOf}
 use Rattle.session.specs.Queries.{ProposesAt}
 use Rattle.session.specs.Working.{TriesBy}
-use Rattle.session.specs.declared.changes.Proposal.{Proposal}
+use Rattle.text_changes.specs.declared.changes.Proposal.{Proposal}
 use Rattle.session.specs.declared.queries.Query.{Query}
 use Rattle.session.specs.declared.queries.Query.TheVariants.{Locate, Occurrences, Complete, Cases, Terms}
 use Rattle.text_reading.specs.Structures.{IsParsedAs}
@@ -64,10 +64,6 @@ tries_none Terms text place = All-nil (IsTried text (Some place))
 pub alone_placed : (r : Result Reply AllocError) (p : Result Proposal AllocError) → IsSaidAlone r p → IfOk p (λ q. changes_in q ≡ [])
 alone_placed (Ok y) p is = subst (λ (q : Result Proposal AllocError). IfOk q (λ x. changes_in x ≡ [])) (sym is) refl
 alone_placed (Err e) p is = subst (λ (q : Result Proposal AllocError). IfOk q (λ x. changes_in x ≡ [])) (sym is) tt
-
--- changes at one span go in place of the node there
-pub all_placed : (n : Option Typed) (x : Span) (rs : List Replacement) → IsPlacedAt x n → All (IsAt x) rs → All (IsPlaced n) rs
-all_placed n x rs at all = All-weaker (IsAt x) (IsPlaced n) (λ r is. subst (λ (y : Span). IsPlacedAt y n) (sym is) at) rs all
 
 -- what a change leaves that goes in place of the node
 placed_left : (text : List ℕ) (o : ℕ) (p : Parsed) (r : Replacement) (c : List ℕ) → IsParsedAs text p → IsPlaced (innermost_at o (trees_of p.tree)) r → (c ≡ replaced text r) × (length c ≤ text_limit) → IsTried text (Some o) c

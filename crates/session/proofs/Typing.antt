@@ -11,7 +11,7 @@ use Rattle.plain_model.proofs.Within.{seen_within}
 use Rattle.query_model.specs.Faults.{TyperFault, by_typer, warning, source_of}
 use Rattle.query_model.specs.TypedNodes.{Typed, typed_at}
 use Rattle.typing_model.specs.Typable.{AreTypable, IsTypable}
-use Rattle.fault_model.specs.Refused.{standing, AreOfLets, IsOfLets, AreRefused}
+use Rattle.fault_model.specs.Refused.{standing, AreOfValues, IsOfValues, AreRefused}
 use Rattle.service_model.specs.Replies as said
 use Rattle.service_model.specs.Structure.{faults_in, faults_said, items_in, AreWarnings, ErrorsAre, ErrorsBy, FaultsAre, TyperFaults}
 use Rattle.service_model.specs.Answers.{EnclosingBy, EnclosingIs, ShownTypes, TypesAre, shown_place, start_and_end, typed_among, typed_round, types_or_none}
@@ -37,6 +37,7 @@ use Rattle.query_engine.specs.declared.asked.QueryFault.TheVariants as fault
 use Rattle.json_lines.specs.Means.{said_of, typed_of}
 use Rattle.json_lines.specs.declared.reply.Reply.{Reply}
 use Rattle.json_lines.specs.declared.reply.Typed as json
+use Rattle.text_changes.proofs.Typed.{typer_found}
 use Rattle.session.specs.Lines.{failure_in}
 use Rattle.session.specs.Queries.{AreFaultsOf, AreTypesBy, AreTypesRound, IsNotPlain, MayBeIllTyped}
 use Rattle.text_reading.specs.PlainTexts.{IsReadAs, plain_of}
@@ -96,60 +97,8 @@ errors_typed text s (tokens, lexed, ill) (ts, lex, page) = (
 faults_parsed : (text : List ℕ) (p : Parsed) (typed : List TyperFault) (s : said.Said) → IsParsedAs text p → TyperFaults text typed → s ≡ faults_said text (map fault_of p.faults.items ++ map by_typer typed) → AreFaultsOf text s
 faults_parsed text p typed s h known page = (h.tokens, h.lexed, (typed, known, page ∙ ap (λ fs. faults_said text (fs ++ map by_typer typed)) h.faults))
 
--- the items of a text that can be typed can
-typable_items : (text : List ℕ) (p : Parsed) → IsParsedAs text p → IsTypable text → AreTypable (trees_of p.tree)
-unfolding items_in
-typable_items text p h t = subst AreTypable (ap items_in (lex_one text t.tokens h.tokens t.lexed h.lexed) ∙ sym h.items) t.items
-
-no_yes : false ≡ true → ⊥
-no_yes e = cc e
-
-both : (p q : Bool) → (p && q) ≡ true → (p ≡ true) × (q ≡ true)
-both true q h = (refl, h)
-both false q h = absurd (no_yes h)
-
--- what are warnings of the typer's are told as warnings
-warnings_told : (fs : List typer.Fault) → api.are_warnings fs ≡ true → AreWarnings (map typer_fault_of fs)
-warnings_told [] h = tt
-warnings_told (f ∷ fs) h = let (one, others) = both (api.is_warning f.kind) (api.are_warnings fs) h in (by f.kind one, warnings_told fs others)
-  where
-    by : (k : FaultKind) → api.is_warning k ≡ true → source_of (kind_of k) ≡ warning
-    by kind.Missed e = refl
-    by kind.Unused e = refl
-    by kind.Bound e = absurd (no_yes e)
-    by kind.Equal e = absurd (no_yes e)
-    by kind.Arity e = absurd (no_yes e)
-    by kind.Label e = absurd (no_yes e)
-    by kind.Mutable e = absurd (no_yes e)
-    by kind.Complete e = absurd (no_yes e)
-    by kind.Unique e = absurd (no_yes e)
-    by kind.Sides e = absurd (no_yes e)
-    by kind.Range e = absurd (no_yes e)
-    by kind.Cycle e = absurd (no_yes e)
-    by kind.Reexport e = absurd (no_yes e)
-    by kind.Functor e = absurd (no_yes e)
-    by kind.With e = absurd (no_yes e)
-    by kind.Closing e = absurd (no_yes e)
-    by kind.Match e = absurd (no_yes e)
-
--- the items of a text of `let` and `;;` are its
-items_here : (text : List ℕ) (p : Parsed) → IsParsedAs text p → (t : IsOfLets text) → items_in t.tokens ≡ trees_of p.tree
-items_here text p h t = ap items_in (lex_one text t.tokens h.tokens t.lexed h.lexed) ∙ sym h.items
-
-lets_here : (text : List ℕ) (p : Parsed) → IsParsedAs text p → IsOfLets text → AreOfLets (trees_of p.tree)
-unfolding items_in
-lets_here text p h t = subst AreOfLets (items_here text p h t) t.items
-
--- So the faults that a typer found of the items are those of the text: none but warnings where it can be typed, and of `let` and `;;` those of the demands that aren't kept.
-pub typer_found : (text : List ℕ) (p : Parsed) (items : List Tree) (found : List typer.Fault) → IsParsedAs text p → items ≡ trees_of p.tree → (AreTypable items → api.are_warnings found ≡ true)
-    → (AreOfLets items → ∥ AreRefused items (standing (map typer_fault_of found)) ∥₁) → TyperFaults text (map typer_fault_of found)
-typer_found text p items found h are silent refused = (
-  λ t. warnings_told found (silent (subst AreTypable (sym are) (typable_items text p h t))),
-  λ t. subst (λ ts. ∥ AreRefused ts (standing (map typer_fault_of found)) ∥₁) (are ∙ sym (items_here text p h t)) (refused (subst AreOfLets (sym are) (lets_here text p h t))),
-)
-
 -- and what is said of them
-pub faults_found : (text : List ℕ) (p : Parsed) (items : List Tree) (found : List typer.Fault) (s : said.Said) → IsParsedAs text p → items ≡ trees_of p.tree → (AreTypable items → api.are_warnings found ≡ true) → (AreOfLets items → ∥ AreRefused items (standing (map typer_fault_of found)) ∥₁) →
+pub faults_found : (text : List ℕ) (p : Parsed) (items : List Tree) (found : List typer.Fault) (s : said.Said) → IsParsedAs text p → items ≡ trees_of p.tree → (AreTypable items → api.are_warnings found ≡ true) → (AreOfValues items → ∥ AreRefused items (standing (map typer_fault_of found)) ∥₁) →
     s ≡ faults_said text (map fault_of p.faults.items ++ map by_typer (map typer_fault_of found)) → AreFaultsOf text s
 faults_found text p items found s h are silent refused page = faults_parsed text p (map typer_fault_of found) s h (typer_found text p items found h are silent refused) page
 
@@ -185,7 +134,7 @@ no_types text o a (fault.Unbound ident) s none is = absurd none
 no_types text o a fault.NoMemory s none is = cc
 
 -- So what is said is what is known of the types of a text, by an analysis of its items.
-pub types_known : (text : List ℕ) (o : ℕ) (a : Asked) (x : Analysis) (s : said.Said) → AreItemsOf text (trees_of a.tree.now) → Asks a x → (AreOfLets (trees_of a.tree.now) → ∥ AreTyped (trees_of a.tree.now) x ∥₁) →
+pub types_known : (text : List ℕ) (o : ℕ) (a : Asked) (x : Analysis) (s : said.Said) → AreItemsOf text (trees_of a.tree.now) → Asks a x → (AreOfValues (trees_of a.tree.now) → ∥ AreTyped (trees_of a.tree.now) x ∥₁) →
     AreTypesBy text o a s → TypesAre text o (trees_of a.tree.now) s
 unfolding items_in
 types_known text o a x s of asks typed by = (by.types, by.places, shown, by.is)
@@ -193,9 +142,9 @@ types_known text o a x s of asks typed by = (by.types, by.places, shown, by.is)
     shown : ShownTypes text o (map (λ t. t.type_text) by.types)
     shown t =
         let are : items_in t.tokens ≡ trees_of a.tree.now = ap items_in (lex_one text t.tokens of.tokens t.lexed of.lexed) ∙ sym of.are in
-        let lets : AreOfLets (trees_of a.tree.now) = subst AreOfLets are t.items in
+        let values : AreOfValues (trees_of a.tree.now) = subst AreOfValues are t.items in
         subst (λ us. ∥ AreShown us (reverse (typed_at o us)) (map (λ t. t.type_text) by.types) ∥₁) (sym are)
-        (∥∥₁_map (typed lets) (λ w. round_shown a x asks (trees_of a.tree.now) lets w o (map (λ t. t.type_text) by.types) by.texts))
+        (∥∥₁_map (typed values) (λ w. round_shown a x asks (trees_of a.tree.now) values w o (map (λ t. t.type_text) by.types) by.texts))
 
 -- what follows of what is said
 pub said_then : (P Q : said.Said → Type 0) (r : Result Reply AllocError) → ((s : said.Said) → P s → Q s) → IfOk r (λ x. P (said_of x)) → IfOk r (λ x. Q (said_of x))

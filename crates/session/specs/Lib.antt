@@ -1,6 +1,4 @@
 -- What a session says of its text, and what the values of the code mean there.
-pub mod Changes
 pub mod Lines
 pub mod Queries
-pub mod Trials
 pub mod Working

@@ -19,8 +19,8 @@ use Rattle.query_engine.specs.declared.asked.Asked.{Asked}
 use Rattle.query_engine.specs.Texts.{IsTypeText}
 use Rattle.name_queries.specs.declared.shown_entries.Completion.{Completion}
 use Rattle.name_queries.specs.NewestNames.{printed}
-use Rattle.session.specs.Changes.{changes_in, IsPlaced}
-use Rattle.session.specs.declared.changes.Proposal.{Proposal}
+use Rattle.text_changes.specs.Changes.{changes_in, IsPlaced}
+use Rattle.text_changes.specs.declared.changes.Proposal.{Proposal}
 use Rattle.session.specs.declared.queries.Query.{Query}
 use Rattle.session.specs.declared.queries.Query.TheVariants.{Locate, Occurrences, Complete, Cases, Terms}
 

@@ -9,7 +9,7 @@ ghost use Rattle.service_model.specs.Completions.{CompletedBy};
 ghost use Rattle.syntax_tree.specs.View.{place_of, trees_of};
 ghost use Rattle.text_queries.specs.Faults.{typer_fault_of};
 ghost use Rattle.json_lines.specs.Means.{entry_kind_text, entry_of, failure_said, said_of, span_of};
-ghost use Rattle.session.specs.Changes.{is_said, FitsText, IsSaidAlone, IsSaidOf};
+ghost use Rattle.text_changes.specs.Changes.{is_said, FitsText, IsSaidAlone, IsSaidOf};
 ghost use Rattle.session.specs.Lines.{failure_in};
 ghost use Rattle.name_queries.specs.NewestNames.{printed};
 ghost use Rattle.session.specs.Queries.{AnswersQuery, IsSaidOfPlace, ProposesAt, said_entry};
@@ -17,7 +17,6 @@ ghost use Rattle.session.specs.Working.{tries_texts};
 ghost use Rattle.text_reading.specs.Structures.{IsParsedAs};
 ghost use Rattle.text_reading.specs.Types.{IsOf};
 
-use crate::changes::{Proposal, cases, terms_in};
 use analysis_api::{Analyser, Analysis};
 use env_table::Place;
 use frame_parser::Parsed;
@@ -26,6 +25,7 @@ use name_queries::{Completion, CompletionKind, complete_prefix, locate, occurren
 use query_engine::{Asked, QueryFault};
 use std::alloc::{AllocError, Global};
 use syntax_tree::{NoMemory, Pos, RcStr, Span, Tree};
+use text_changes::{Proposal, asked, cases, terms_in};
 use text_reading::position;
 use text_store::TextStore;
 
@@ -53,22 +53,6 @@ pub fn failure_of(fault: QueryFault) -> Result<Failure, NoMemory>
         QueryFault::NotAName => Ok(Failure::NotAName),
         QueryFault::Unbound { ident } => Ok(Failure::Unbound { ident }),
         QueryFault::NoMemory => Err(AllocError),
-    }
-}
-
-/// What queries are asked of.
-pub fn asked<'a>(tree: &'a Tree, analysis: &Analysis<'a>) -> Asked<'a>
-    ensures tree { result.tree.now ≡ tree.now }
-    ensures index { result.index.now ≡ analysis.now.index.now }
-    ensures store { result.store.now ≡ analysis.now.store.now }
-{
-    Asked {
-        tree,
-        index: analysis.index,
-        store: analysis.store,
-        end: analysis.end,
-        faults: analysis.faults,
-        weak: analysis.weak,
     }
 }
 

@@ -28,14 +28,12 @@ ghost use Rattle.kept_text.specs.Keeping.{sooner};
 ghost use Rattle.text_reading.specs.Structures.{AreItemsOf};
 ghost use Rattle.asked_node.specs.Trials.{AreReplaced};
 ghost use Rattle.text_reading.specs.Types.{items_in};
-ghost use Rattle.session.specs.Changes.{candidates_in, changes_in, is_said, ArePlaced, AreSaidOf, FitsText, IsSaidOf};
+ghost use Rattle.text_changes.specs.Changes.{candidates_in, changes_in, is_said, ArePlaced, AreSaidOf, FitsText, IsSaidOf};
 ghost use Rattle.session.specs.Queries.{AreFaultsOf, AreTypesBy, AreTypesRound, IsAnswered, IsNotPlain, MayBeIllTyped};
 ghost use Rattle.session.specs.Lines.{line_bytes, refusal_in, IsWritten, RefusesBy, RefusesEditBy, RepliesBy, Says};
 ghost use Rattle.session.specs.Working.{alike, tries_texts, Carries, Owes, QuerySpends, QueryWorks, Reads, RequestWorks, Settles, Takes, TriesBy, TriesNone, TriesTexts, Types, TypesSome};
 
-use crate::changes::{Candidates, Proposal, try_all};
-use crate::queries::{Query, asked, failure_of, propose};
-use crate::trials::MarkedText;
+use crate::queries::{Query, failure_of, propose};
 use analysis_api::Analyser;
 use env_table::Fault;
 use frame_parser::{Parsed, SyntaxFault};
@@ -48,6 +46,7 @@ use query_engine::{Asked, enclosing_types};
 use std::alloc::{AllocError, Global};
 use std::marker::Model;
 use syntax_tree::{Counts, NoMemory, Pos, RcStr, Tree, enclosing};
+use text_changes::{Candidates, MarkedText, Proposal, asked, try_all};
 use text_reading::{
     Found, KeptTypes, PlainText, TriedText, find_types, read_text, shown_faults, shown_outline,
     shown_types, tree_of, typed_among,

@@ -1,3 +1,3 @@
-pub mod Cut
 pub mod Texts
 pub mod Shown
+pub mod Programs

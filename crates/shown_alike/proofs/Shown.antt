@@ -1,61 +1,50 @@
--- Of a settled node of a text of `let` and `;;` one text is shown.
+-- Of each node of a text of `let`, `;;` and exceptions that is told with its type one text is shown.
 use Rattle.std.proofs.Common.{◌≡◌, ◌∙◌, ℕ, zero, suc, Bool, true, false, List, [], ◌∷◌, Some, refl, sym, subst}
 use Rattle.std.specs.Prelude.{slice_get}
 use Rattle.std.specs.List.{AllZip}
 use Rattle.std.proofs.Math.Path.{fun_ext}
-use Rattle.tree_model.specs.Rows.{Row, let_row, break_row}
-use Rattle.tree_model.specs.Trees.{Tree, node}
+use Rattle.tree_model.specs.Trees.{Tree}
 use Rattle.query_model.specs.TypedNodes.{Typed}
 use Rattle.type_model.specs.Types.{Typ, occurs}
 use Rattle.type_model.proofs.Applying.{eqb_same, occurs_put}
 use Rattle.signature_model.specs.Entries.{Environment}
 use Rattle.type_print_model.specs.Variables.{is_among}
 use Rattle.typing_model.specs.Demands.{Site}
-use Rattle.typing_model.specs.Plain.{is_let_row, is_plain_row, has_lets_alone, has_no_modules}
+use Rattle.typing_model.specs.Plain.{has_values_alone}
 use Rattle.typing_model.specs.Typings.{conditions_of, IsKept, IsPrincipal}
 use Rattle.typing_laws.specs.Renaming.{renaming, KeepsWeak, AreRenamed}
 use Rattle.typing_laws.proofs.Alike.{are_renamed}
-use Rattle.typing_laws.proofs.Bools.{no_yes, and_cases, and_both}
+use Rattle.typing_laws.proofs.Bools.{no_yes}
 use Rattle.typing_laws.proofs.Decided.{are_one}
 use Rattle.typing_laws.proofs.QuietTexts.{no_closings}
+use Rattle.typing_laws.proofs.Settled.{values_plain}
 use Rattle.typed_model.specs.Over.{IsOver}
-use Rattle.typed_model.specs.Shown.{number_of, IsTypingOf, IsOfDeclarations, IsShownAt, AreShown}
-use Rattle.over_laws.proofs.Texts.{lets_tell_typed_over}
-use Rattle.shown_alike.specs.Settled.{HasNone, type_at, IsTold, IsSettled}
-use Rattle.shown_alike.proofs.Texts.{declarations_renamed, shown_one}
-
-row_plain : (r : Row) → is_let_row r ≡ true → is_plain_row r ≡ true
-row_plain let_row e = refl
-row_plain break_row e = refl
-row_plain _ e = absurd (no_yes e)
-
--- items that are `let` and `;;` alone have no modules
-pub plain : (ts : List Tree) → has_lets_alone ts ≡ true → has_no_modules ts ≡ true
-plain [] e = refl
-plain (node r x ps ∷ ts) e = let (first, others) = and_cases (is_let_row r) (has_lets_alone ts) e in and_both (is_plain_row r) (has_no_modules ts) (row_plain r first) (plain ts others)
+use Rattle.typed_model.specs.Shown.{number_of, IsTypingOf, IsShownAt, AreShown}
+use Rattle.over_laws.proofs.Texts.{values_tell_typed_over}
+use Rattle.shown_alike.specs.Told.{HasNone, type_at, IsTold}
+use Rattle.shown_alike.proofs.Texts.{shown_one}
 
 -- the types of two such typings from one environment are renamings of each other
-typings_of_one : (items : List Tree) → has_lets_alone items ≡ true → (env : Environment) (kept others : Site → Bool) (types shown : ℕ → Typ) → IsKept env items kept → IsKept env items others → IsPrincipal env items kept types → IsPrincipal env items others shown →
+typings_of_one : (items : List Tree) → has_values_alone items ≡ true → (env : Environment) (kept others : Site → Bool) (types shown : ℕ → Typ) → IsKept env items kept → IsKept env items others → IsPrincipal env items kept types → IsPrincipal env items others shown →
     AreRenamed types shown
-typings_of_one items lets env kept others types shown k o p q =
-    let same : kept ≡ others = fun_ext (are_one env items kept others k o (λ s x y same. absurd (no_yes (sym (no_closings env items kept (plain items lets) s) ∙ x)))) in
+typings_of_one items values env kept others types shown k o p q =
+    let same : kept ≡ others = fun_ext (are_one env items kept others k o (λ s x y same. absurd (no_yes (sym (no_closings env items kept (values_plain items values) s) ∙ x)))) in
     are_renamed kept (conditions_of env items kept) types shown p (subst (λ z. IsPrincipal env items z shown) (sym same) q)
 
-pub typings_renamed : (items : List Tree) → has_lets_alone items ≡ true → (a b : IsTypingOf items) → a.env ≡ b.env → AreRenamed a.choice.type_at b.choice.type_at
-typings_renamed items lets a b same =
-    typings_of_one items lets a.env a.kept b.kept a.choice.type_at b.choice.type_at a.keeps (subst (λ E. IsKept E items b.kept) (sym same) b.keeps) a.principal (subst (λ E. IsPrincipal E items b.kept b.choice.type_at) (sym same) b.principal)
+pub typings_renamed : (items : List Tree) → has_values_alone items ≡ true → (a b : IsTypingOf items) → a.env ≡ b.env → AreRenamed a.choice.type_at b.choice.type_at
+typings_renamed items values a b same =
+    typings_of_one items values a.env a.kept b.kept a.choice.type_at b.choice.type_at a.keeps (subst (λ E. IsKept E items b.kept) (sym same) b.keeps) a.principal (subst (λ E. IsPrincipal E items b.kept b.choice.type_at) (sym same) b.principal)
 
--- each environment in which a node is told with its type has values alone in front of the first one
-told_over : (items : List Tree) → has_lets_alone items ≡ true → (a : IsTypingOf items) (n : Typed) (h : IsTold a n) → IsOver a.env h.names
-told_over items lets a n h = lets_tell_typed_over a.env items a.kept a.choice lets (number_of n.id) h.names h.typ h.told
+-- each environment in which a node is told with its type has values and exceptions alone in front of the first one
+told_over : (items : List Tree) → has_values_alone items ≡ true → (a : IsTypingOf items) (n : Typed) (h : IsTold a n) → IsOver a.env h.names
+told_over items values a n h = values_tell_typed_over a.env items a.kept a.choice values (number_of n.id) h.names (type_at a n) h.told
 
 -- The texts of a node in two typings are one, where the renaming keeps which variables are weak.
-pub node_shown : (items : List Tree) → has_lets_alone items ≡ true → (a b : IsTypingOf items) → a.env ≡ b.env → (r : AreRenamed a.choice.type_at b.choice.type_at) (weak weaks : List ℕ) (n : Typed) → KeepsWeak r.forth weak weaks (type_at a n) →
-    IsSettled a weak n → IsTold b n → (shown other : List ℕ) → IsShownAt a weak n shown → IsShownAt b weaks n other → shown ≡ other
-node_shown items lets a b same r weak weaks n keeps settled told shown other h g =
-    let still = subst (λ (t : Typ). IsOfDeclarations t) (sym (r.gives (number_of n.id))) (declarations_renamed r.forth (type_at a n) settled.of_declarations) in
-    shown_one (told_over items lets a n settled.told) (subst (λ E. IsOver E told.names) (sym same) (told_over items lets b n told)) a.choice.type_at b.choice.type_at r weak weaks (number_of n.id) keeps settled.reached settled.short shown other
-    (h.each settled.told.names settled.told.typ settled.told.told settled.of_declarations) (g.each told.names told.typ told.told still)
+pub node_shown : (items : List Tree) → has_values_alone items ≡ true → (a b : IsTypingOf items) → a.env ≡ b.env → (r : AreRenamed a.choice.type_at b.choice.type_at) (weak weaks : List ℕ) (n : Typed) → KeepsWeak r.forth weak weaks (type_at a n) →
+    IsTold a n → IsTold b n → (shown other : List ℕ) → IsShownAt a weak n shown → IsShownAt b weaks n other → shown ≡ other
+node_shown items values a b same r weak weaks n keeps first second shown other h g =
+    shown_one (told_over items values a n first) (subst (λ E. IsOver E second.names) (sym same) (told_over items values b n second)) a.choice.type_at b.choice.type_at r weak weaks (number_of n.id) keeps shown other
+    (h.each first.names (type_at a n) first.told) (g.each second.names (type_at b n) second.told)
 
 -- what is so of the elements of two lists at each place
 at_place : {A B : Type 0} (R : A → B → Type 0) (xs : List A) (ys : List B) → AllZip R xs ys → (k : ℕ) (x : A) (y : B) → slice_get xs k ≡ Some x → slice_get ys k ≡ Some y → R x y
@@ -77,18 +66,18 @@ none_weak : (types others : ℕ → Typ) (r : AreRenamed types others) (weak wea
 none_weak types others r weak weaks n first second v o =
     none_so (is_among (r.forth v) weaks) (second (r.forth v) (variable_there types others r n v o)) ∙ sym (none_so (is_among v weak) (first v o))
 
--- Two ways in which the nodes of items that are `let` and `;;` alone are shown, from one first environment, are one at each place whose node is settled, where the renaming of the types keeps which variables are weak.
-pub two_shown_renamed : (items : List Tree) (nodes : List Typed) (texts others : List (List ℕ)) → has_lets_alone items ≡ true → (a : AreShown items nodes texts) (b : AreShown items nodes others) → a.typing.env ≡ b.typing.env →
+-- Two ways in which the nodes of items that are `let`, `;;` and exceptions alone are shown, from one first environment, are one at each place whose node is told with its type, where the renaming of the types keeps which variables are weak.
+pub two_shown_renamed : (items : List Tree) (nodes : List Typed) (texts others : List (List ℕ)) → has_values_alone items ≡ true → (a : AreShown items nodes texts) (b : AreShown items nodes others) → a.typing.env ≡ b.typing.env →
     (r : AreRenamed a.typing.choice.type_at b.typing.choice.type_at) (k : ℕ) (n : Typed) (shown other : List ℕ) → slice_get nodes k ≡ Some n → slice_get texts k ≡ Some shown → slice_get others k ≡ Some other →
-    IsSettled a.typing a.weak n → IsTold b.typing n → KeepsWeak r.forth a.weak b.weak (type_at a.typing n) → shown ≡ other
-two_shown_renamed items nodes texts others lets a b same r k n shown other here one two settled told keeps =
-    node_shown items lets a.typing b.typing same r a.weak b.weak n keeps settled told shown other
+    IsTold a.typing n → IsTold b.typing n → KeepsWeak r.forth a.weak b.weak (type_at a.typing n) → shown ≡ other
+two_shown_renamed items nodes texts others values a b same r k n shown other here one two first second keeps =
+    node_shown items values a.typing b.typing same r a.weak b.weak n keeps first second shown other
     (at_place (IsShownAt a.typing a.weak) nodes texts a.each k n shown here one) (at_place (IsShownAt b.typing b.weak) nodes others b.each k n other here two)
 
 -- So they are one where no variable of the node's type is weak in either.
-pub two_shown_alike : (items : List Tree) (nodes : List Typed) (texts others : List (List ℕ)) → has_lets_alone items ≡ true → (a : AreShown items nodes texts) (b : AreShown items nodes others) → a.typing.env ≡ b.typing.env →
+pub two_shown_alike : (items : List Tree) (nodes : List Typed) (texts others : List (List ℕ)) → has_values_alone items ≡ true → (a : AreShown items nodes texts) (b : AreShown items nodes others) → a.typing.env ≡ b.typing.env →
     (k : ℕ) (n : Typed) (shown other : List ℕ) → slice_get nodes k ≡ Some n → slice_get texts k ≡ Some shown → slice_get others k ≡ Some other →
-    IsSettled a.typing a.weak n → IsTold b.typing n → HasNone a.weak (type_at a.typing n) → HasNone b.weak (type_at b.typing n) → shown ≡ other
-two_shown_alike items nodes texts others lets a b same k n shown other here one two settled told first second =
-    let r = typings_renamed items lets a.typing b.typing same in
-    two_shown_renamed items nodes texts others lets a b same r k n shown other here one two settled told (none_weak a.typing.choice.type_at b.typing.choice.type_at r a.weak b.weak (number_of n.id) first second)
+    IsTold a.typing n → IsTold b.typing n → HasNone a.weak (type_at a.typing n) → HasNone b.weak (type_at b.typing n) → shown ≡ other
+two_shown_alike items nodes texts others values a b same k n shown other here one two told too first second =
+    let r = typings_renamed items values a.typing b.typing same in
+    two_shown_renamed items nodes texts others values a b same r k n shown other here one two told too (none_weak a.typing.choice.type_at b.typing.choice.type_at r a.weak b.weak (number_of n.id) first second)

@@ -1,2 +1,2 @@
--- The nodes of a text of which one text is shown.
-pub mod Settled
+-- Nodes that are told with their types.
+pub mod Told

@@ -1,3 +1,3 @@
 pub mod Numbers
-pub mod Short
+pub mod Called
 pub mod Shown

@@ -10,8 +10,8 @@ use Rattle.query_model.specs.TypedNodes.{Typed, typed_at}
 use Rattle.type_model.specs.Types.{Typ}
 use Rattle.signature_model.specs.Entries.{Environment}
 use Rattle.type_print_model.specs.Variables.{variables_of}
-use Rattle.typed_model.specs.Shown.{number_of, IsOfDeclarations, IsShownAs, IsShownAt, AreShown}
-use Rattle.fault_model.specs.Refused.{AreOfLets}
+use Rattle.typed_model.specs.Shown.{number_of, IsShownAs, IsShownAt, AreShown}
+use Rattle.fault_model.specs.Refused.{AreOfValues}
 use Rattle.type_terms.specs.declared.types.NodeRef.{NodeRef}
 use Rattle.env_table.specs.declared.entries.Entry.{Entry}
 use Rattle.env_table.specs.declared.seen.Seen.{Seen}
@@ -24,7 +24,7 @@ use Rattle.analysis_api.specs.Types.{HasType, AreTyped}
 use Rattle.query_engine.specs.declared.asked.Asked.{Asked}
 use Rattle.query_engine.specs.Texts.{is_node, type_at, weak_nodes, IsTextOf, IsTypeText, PrintsNode}
 use Rattle.shown_laws.proofs.Numbers.{items_low, same_node, IsLow}
-use Rattle.shown_laws.proofs.Short.{shown_as}
+use Rattle.shown_laws.proofs.Called.{shown_as}
 
 -- the variables that are shown as weak ones
 abbrev pub weak_of : Asked → List ℕ
@@ -52,15 +52,15 @@ printed a n env m text at there h =
     let of : IsTextOf a env m text = subst (λ (o : Option (List Entry × ℕ)). MatchOption o (text ≡ codes "'a") (λ p. IsTextOf a p.0 p.1 text)) at h in
     subst (λ b. MatchBool b (PrintsNode a env m text) (text ≡ codes "'a")) there of
 
--- A node for which a type is recorded is shown with this type, where the type's constructors have the paths of declarations.
-node_shown : (a : Asked) (x : Analysis) → Asks a x → (n : Typed) → IsLow n → (E : Environment) (t : Typ) → HasType x (number_of n.id) E t → (text : List ℕ) → IsTypeText a n.id text → IsOfDeclarations t → IsShownAs E (weak_of a) t text
-node_shown a x asks n low E t h text is plain =
+-- A node for which a type is recorded is shown with this type.
+node_shown : (a : Asked) (x : Analysis) → Asks a x → (n : Typed) → IsLow n → (E : Environment) (t : Typ) → HasType x (number_of n.id) E t → (text : List ℕ) → IsTypeText a n.id text → IsShownAs E (weak_of a) t text
+node_shown a x asks n low E t h text is =
     let (item, place) = same_node n.id.item n.id.pre h.item h.place low (x.index.now.low h.item h.place h.seen h.at) h.number in
     let at : seen_at a.index.now n.id.item n.id.pre ≡ Some h.seen = ap (λ i. seen_at a.index.now i n.id.pre) item ∙ ap (seen_at a.index.now h.item) place ∙ ap (λ j. seen_at j h.item h.place) asks.index ∙ h.at in
     let there : is_node a h.node ≡ true = below h.node (length a.store.now.nodes) (subst (λ s. h.node < length s.nodes) (sym asks.store) h.inside) in
     let prints = (printed a n h.seen.env h.node text (recorded a n h.seen h.node at h.typed) there is).inside in
-    let same : shown a.store.now.nodes h.node ≡ t = ap (λ s. shown s.nodes h.node) asks.store ∙ h.shows plain in
-    shown_as a.store.now.nodes h.seen.env E (weak_of a) t text h.names (subst (λ u. PrintsIn a.store.now.nodes h.seen.env (weak_of a) (variables_of u) u text) same prints)
+    let same : shown a.store.now.nodes h.node ≡ t = ap (λ s. shown s.nodes h.node) asks.store ∙ h.shows in
+    shown_as a.store.now.nodes h.seen.env E (weak_of a) t text h.called (subst (λ u. PrintsIn a.store.now.nodes h.seen.env (weak_of a) (variables_of u) u text) same prints)
 
 -- so are nodes in order, each that is told with its type
 nodes_shown : (a : Asked) (x : Analysis) → Asks a x → (items : List Tree) (typed : AreTyped items x) (nodes : List Typed) → All IsLow nodes → (texts : List (List ℕ)) → AllZip (λ n text. IsTypeText a n.id text) nodes texts →
@@ -69,12 +69,12 @@ nodes_shown a x asks items typed [] low [] all = tt
 nodes_shown a x asks items typed [] low (text ∷ texts) all = absurd all
 nodes_shown a x asks items typed (n ∷ ns) low [] all = absurd all
 nodes_shown a x asks items typed (n ∷ ns) low (text ∷ texts) all = (
-  record { each = λ names u told plain. node_shown a x asks n (All-head IsLow n ns low) names (typed.typing.choice.type_at (number_of n.id)) (typed.each (number_of n.id) names u told) text all.0 plain },
+  record { each = λ names u told. node_shown a x asks n (All-head IsLow n ns low) names (typed.typing.choice.type_at (number_of n.id)) (typed.each (number_of n.id) names u told) text all.0 },
   nodes_shown a x asks items typed ns (All-tail IsLow n ns low) texts all.1,
 )
 
 -- So the typed nodes that hold an offset are shown, from the last in preorder to the first, with the types of a principal typing.
-pub round_shown : (a : Asked) (x : Analysis) → Asks a x → (items : List Tree) → AreOfLets items → (typed : AreTyped items x) (o : ℕ) (texts : List (List ℕ)) → AllZip (λ n text. IsTypeText a n.id text) (reverse (typed_at o items)) texts →
+pub round_shown : (a : Asked) (x : Analysis) → Asks a x → (items : List Tree) → AreOfValues items → (typed : AreTyped items x) (o : ℕ) (texts : List (List ℕ)) → AllZip (λ n text. IsTypeText a n.id text) (reverse (typed_at o items)) texts →
     AreShown items (reverse (typed_at o items)) texts
 round_shown a x asks items lets typed o texts all = record {
   typing = typed.typing;

@@ -69,6 +69,8 @@ starts_told {a} {b} at only =
       unknown = at.unknown;
       are_bound = record { inside = λ k r e. absurd (cc); bound = λ K own v h. absurd (no_yes h) };
       entries = no_entries;
+      plain = true;
+      keeps = λ e. record { plain = λ none. none; entries = no_entries };
     } in
     record { outside = outside_declared at on none; older = declared_older at on none }
 

@@ -26,7 +26,9 @@ use Rattle.binding_rows.specs.ItemRows.{recorded_exception, IsExceptionNode, Ite
 use Rattle.binding_rows.proofs.ItemKinds.{noted_between, none_too, exception_there}
 use Rattle.declared_items.specs.Adding.{ItemsAdded, AddsException}
 use Rattle.declared_items.specs.Written.{IsOwnTypeNode}
-use Rattle.declared_items.proofs.Adding.{items_added_none, items_added_one, items_added_then}
+use Rattle.declared_items.proofs.Adding.{items_added_none, items_added_one, items_added_then, added_anyhow}
+-- for the crate that types modules
+pub use Rattle.declared_items.proofs.Exceptions.{exception_done}
 use Rattle.module_steps.specs.declared.scenes.Scene.{Scene}
 use Rattle.module_steps.specs.Scenes.{has_name, SameNames}
 use Rattle.signature_typing.specs.ValueItems.{IsValueNode, IsValuesModuleNode, GivesValue}
@@ -62,7 +64,7 @@ exception_specified (Ok v) a b s s' x nd some row adds same = λ G E seen carrie
     subst (λ p. IsSpecified E (specification_at a.item (numbered x.number (place_of x.span) p)) seen a b G s') (sym (there x nd some)) (record {
       names = seen;
       added = subst (λ ms. ItemsAdded E ms seen seen a b G s'.env) (sym (exception_there a.item x.number (place_of x.span) t item) ∙ exception_as_item a.item x.number (place_of x.span) t item.row)
-          (subst (λ names. ItemsAdded E (recorded_exception a.item x.number item.operand.number item.constructor ∷ []) seen names a b G s'.env) (none_too seen) (items_added_one (adds G E seen item aloud at constants older)));
+          (subst (λ names. ItemsAdded E (recorded_exception a.item x.number item.operand.number item.constructor ∷ []) seen names a b G s'.env) (none_too seen) (items_added_one (added_anyhow (adds G E seen item aloud at constants older))));
       standing = seen_same same standing;
     })
   where

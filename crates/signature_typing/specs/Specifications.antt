@@ -28,6 +28,8 @@ use Rattle.typing_rows.specs.Noted.{AreNoted}
 use Rattle.binding_rows.specs.ItemRows.{IsExceptionNode, ItemsDone, item_if}
 use Rattle.binding_rows.specs.Outside.{Outside, EntersItems}
 use Rattle.declared_items.specs.Adding.{ItemsAdded}
+-- for the crate that types modules
+pub use Rattle.declared_items.specs.Adding.{GivesException}
 use Rattle.declared_items.specs.Written.{IsOwnTypeNode}
 use Rattle.module_steps.specs.declared.scenes.Scene.{Scene}
 use Rattle.module_steps.specs.Scenes.{has_name}

@@ -8,8 +8,7 @@ ghost use Rattle.type_expressions.specs.Untyped.{Untyped};
 ghost use Rattle.signature_typing.specs.Values.{DenotesValue, ClosesValue, IsValue, SpecifiesValue};
 ghost use Rattle.signature_typing.specs.ValueItems.{GivesValue};
 ghost use Rattle.signature_typing.specs.ValueSignatures.{AddsIf};
-ghost use Rattle.binding_rows.specs.ItemRows.{GivesException};
-ghost use Rattle.declared_items.specs.Adding.{AddsException};
+ghost use Rattle.declared_items.specs.Adding.{AddsException, GivesException};
 ghost use Rattle.module_steps.specs.Scenes.{SameNames, OnlyNames};
 ghost use Rattle.signature_typing.specs.TypeItems.{names_written, AsksEach, GivesType};
 

@@ -4,5 +4,6 @@ pub mod Patterns
 pub mod Expressions
 pub mod Records
 pub mod Bindings
+pub mod Declarations
 pub mod Rows
 pub mod Texts

@@ -3,27 +3,30 @@ use Rattle.std.proofs.Common.{◌≡◌, ◌∙◌, inl, inr, ◌⊎◌, ℕ, �
 use Rattle.std.specs.List.{cons_option}
 use Rattle.std.proofs.lemmas.Bool.{eqb-true}
 use Rattle.tree_model.specs.Trees.{Place, place}
-use Rattle.tree_model.specs.Rows.{Row, tvar_row, tcon_row, tparen_row, tapp_row, ttuple_row, tarrow_row, pname_row, pany_row, pconst_row, pneg_row, pcon_row, pparen_row, plist_row, precord_row, papp_row, pcons_row, ptuple_row, por_row, pas_row, name_row, econ_row, epath_row, econst_row, hole_row, eparen_row, ebegin_row, elist_row, erecord_row, prefix_row, field_row, eapp_row, eassert_row, ewhile_row, efor_row, eneg_row, infix_row, econs_row, etuple_row, eset_row, eif_row, eseq_row, elet_row, ematch_row, etry_row, efun_row, efunction_row}
+use Rattle.tree_model.specs.Rows.{Row, alias_row, variant_row, record_row, con_row, label_row, decl_row, tvar_row, tcon_row, tparen_row, tapp_row, ttuple_row, tarrow_row, pname_row, pany_row, pconst_row, pneg_row, pcon_row, pparen_row, plist_row, precord_row, papp_row, pcons_row, ptuple_row, por_row, pas_row, name_row, econ_row, epath_row, econst_row, hole_row, eparen_row, ebegin_row, elist_row, erecord_row, prefix_row, field_row, eapp_row, eassert_row, ewhile_row, efor_row, eneg_row, infix_row, econs_row, etuple_row, eset_row, eif_row, eseq_row, elet_row, ematch_row, etry_row, efun_row, efunction_row}
 use Rattle.typing_model.specs.Demands.{Site}
-use Rattle.typing_model.specs.Parts.{Expression, Pattern, TypeExpression, Binding, Child, in_slot, path_in, token_in, expressions_in, expression_in, patterns_in, pattern_in, types_in, type_in, first_of, no_expression_at, no_pattern_at, no_type_at}
+use Rattle.typing_model.specs.Parts.{Expression, Pattern, TypeExpression, Binding, ConstructorPart, RightSide, Child, in_slot, path_in, token_in, expressions_in, expression_in, patterns_in, pattern_in, types_in, type_in, first_of, no_expression_at, no_pattern_at, no_type_at}
+use Rattle.typing_model.specs.Names.{then_by}
 use Rattle.typing_model.specs.Patterns.{pattern_row}
 use Rattle.typing_model.specs.TypeExpressions as types
 use Rattle.typing_model.specs.Expressions.{expression_row, cases_in, fields_in, bindings_in, is_some, update_expression, record_expression}
+use Rattle.typing_model.specs.Declarations.{last_token, tokens_of_slot, told_row, right_side_row}
+use Rattle.typing_model.specs.Meanings.{constructor_of, label_of, declaration_of}
 use Rattle.typing_laws.proofs.Bools.{no_yes}
 use Rattle.typing_laws.proofs.Steady.{IfThere, absent, there}
-use Rattle.site_laws.proofs.Sites.{Apart, Lies, both_in, At, Range, Others, none_within, Every, none_of, one_of, every_in, every_both}
+use Rattle.site_laws.proofs.Sites.{Apart, Lies, both_in, At, Range, Others, none_within, IfHere, gone, here, Every, none_of, one_of, every_in, every_both}
 use Rattle.site_laws.proofs.Types.{ApartType, type_in as type_in_set, no_type_apart, tvar_apart, tcon_apart, tapp_apart, tparen_apart, ttuple_apart, tarrow_apart}
 use Rattle.site_laws.proofs.Patterns.{ApartPattern, ApartFieldPattern, pattern_in_set, no_pattern_apart, pname_apart, pconst_apart, pneg_apart, pcon_apart, papp_apart, pparen_apart, plist_apart, pcons_apart, ptuple_apart, pas_apart, por_apart, precord_apart}
 use Rattle.site_laws.proofs.Expressions.{ApartExpression, expression_in_set, no_expression_apart, name_apart, econ_apart, path_apart, econst_apart, hole_apart, eparen_apart, ebegin_apart, elist_apart, econs_apart, etuple_apart, eapp_apart, infix_apart, prefix_apart, eneg_apart, field_apart, eset_apart, eassert_apart, eif_apart, eseq_apart, ewhile_apart, efor_apart}
 use Rattle.site_laws.proofs.Records.{ApartField, ApartCase, erecord_apart, eupdate_apart, ematch_apart, etry_apart, efunction_apart, efun_apart}
+use Rattle.site_laws.proofs.Declarations.{Ranged, no_part, and_part, ranged_lower, ConstructorIn, LabelIn, ApartTold, told_in_set, constructors_apart, labels_apart, ApartRight, right_in_set, another_apart, own_right, ApartDeclaration}
 use Rattle.site_laws.proofs.Bindings.{ApartBinding, Bindings, no_binding, and_binding, elet_apart}
 
--- what may be none has a property if it is there
-pub data IfHere {X : Type 0} (Q : X → Type 1) : Option X → Type 1 where
-  gone : IfHere Q None
-  here : {x : X} → Q x → IfHere Q (Some x)
+-- the argument of an exception makes its demands in a set, each once
+pub record ApartException (P : Site → Type 0) (k : ConstructorPart) : Type 1 where
+  pub argument : IfThere (ApartType P) k.argument
 
--- a part of a row, as each sort that stands in a `let`, makes its demands in a range, each once
+-- a part of a row, as each sort that stands in a `let`, a declaration of types or an exception, makes its demands in a range, each once
 pub record ApartChild (lo hi : ℕ) (x : Child) : Type 1 where
   pub expression : ApartExpression (Range lo hi) x.expression
   pub pattern : ApartPattern (Range lo hi) x.pattern
@@ -32,6 +35,11 @@ pub record ApartChild (lo hi : ℕ) (x : Child) : Type 1 where
   pub case : IfThere (ApartCase (Range lo hi)) x.case
   pub field : IfThere (ApartField (Range lo hi)) x.field
   pub field_pattern : IfThere (ApartFieldPattern (Range lo hi)) x.field_pattern
+  pub constructor : IfHere (ConstructorIn lo hi) x.constructor
+  pub label : IfHere (LabelIn lo hi) x.label
+  pub told : IfHere (ApartTold (Range lo hi)) x.told
+  pub right_side : IfHere (ApartRight (Range lo hi)) x.right_side
+  pub declaration : IfHere (ApartDeclaration lo hi) x.declaration
 
 -- the parts of a row, each in a range behind that of the part before
 pub data Spread : ℕ → ℕ → List Child → Type 1 where
@@ -103,6 +111,49 @@ bindings_slot s (more {lo = lo} {mid = mid} {c = c} {cs = cs} le one rest) = by 
     by others true e = kind others e c.binding one.binding
     by others false e = wider (λ x i. inr i) others
 
+-- the first part of a slot, where it is of a sort
+first_kind : {X : Type 0} (Q : (Site → Type 0) → X → Type 1) (f : Child → Option X) → ((P R : Site → Type 0) (x : X) → Lies P R → Q P x → Q R x) → ((lo hi : ℕ) (c : Child) → ApartChild lo hi c → IfHere (Q (Range lo hi)) (f c)) →
+    (s : ℕ) {lo hi : ℕ} {cs : List Child} (h : Spread lo hi cs) → IfHere (Q (InSlot s h)) (then_by (first_of (in_slot s cs)) f)
+first_kind Q f wide get s ends = gone
+first_kind {X} Q f wide get s (more {lo = lo} {mid = mid} {c = c} {cs = cs} le one rest) = by (first_kind Q f wide get s rest) (c.slot == s) refl
+  where
+    in_set : {P : Site → Type 0} {o : Option X} → Lies P (InSlot s (more le one rest)) → IfHere (Q P) o → IfHere (Q (InSlot s (more le one rest))) o
+    in_set g gone = gone
+    in_set {P} g (here {x = x} q) = here (wide P (InSlot s (more le one rest)) x g q)
+
+    by : IfHere (Q (InSlot s rest)) (then_by (first_of (in_slot s cs)) f) → (b : Bool) → (c.slot == s) ≡ b → IfHere (Q (InSlot s (more le one rest))) (then_by (first_of (if b then c ∷ in_slot s cs else in_slot s cs)) f)
+    by others true e = in_set (λ x i. inl (e, i)) (get lo mid c one)
+    by others false e = in_set (λ x i. inr i) others
+
+-- the parts of a slot that are of a sort, each in its range
+ranged_slot : {X : Type 0} (Q : ℕ → ℕ → X → Type 1) (f : Child → Option X) → ((lo hi : ℕ) (c : Child) → ApartChild lo hi c → IfHere (Q lo hi) (f c)) → (s : ℕ) {lo hi : ℕ} {cs : List Child} → Spread lo hi cs → Ranged Q lo hi (filter_map f (in_slot s cs))
+ranged_slot Q f get s ends = no_part (omega arith)
+ranged_slot {X} Q f get s {hi = hi} (more {lo = lo} {mid = mid} {c = c} {cs = cs} le one rest) = by (ranged_slot Q f get s rest) (c.slot == s)
+  where
+    kind : Ranged Q mid hi (filter_map f (in_slot s cs)) → (o : Option X) → IfHere (Q lo mid) o → Ranged Q lo hi (cons_option o (filter_map f (in_slot s cs)))
+    kind others None gone = ranged_lower le others
+    kind others (Some y) (here q) = and_part (omega arith) le q others
+
+    by : Ranged Q mid hi (filter_map f (in_slot s cs)) → (b : Bool) → Ranged Q lo hi (filter_map f (if b then c ∷ in_slot s cs else in_slot s cs))
+    by others true = kind others (f c) (get lo mid c one)
+    by others false = ranged_lower le others
+
+-- the declarations of a slot
+pub declarations_slot : (s : ℕ) {lo hi : ℕ} {cs : List Child} → Spread lo hi cs → Ranged ApartDeclaration lo hi (filter_map (λ c. c.declaration) (in_slot s cs))
+declarations_slot s h = ranged_slot ApartDeclaration (λ c. c.declaration) (λ l m c k. k.declaration) s h
+
+-- the constructor of an exception
+pub first_exception : (s : ℕ) {lo hi : ℕ} {cs : List Child} (h : Spread lo hi cs) → IfHere (ApartException (InSlot s h)) (then_by (first_of (in_slot s cs)) (λ c. c.constructor))
+first_exception s h = first_kind ApartException (λ c. c.constructor) (λ P R k g q. record { argument = argument_in g q.argument }) (λ lo hi c k. an_exception k.constructor) s h
+  where
+    argument_in : {P R : Site → Type 0} {o : Option TypeExpression} → Lies P R → IfThere (ApartType P) o → IfThere (ApartType R) o
+    argument_in g absent = absent
+    argument_in g (there q) = there (type_in_set g q)
+
+    an_exception : {lo hi : ℕ} {o : Option ConstructorPart} → IfHere (ConstructorIn lo hi) o → IfHere (ApartException (Range lo hi)) o
+    an_exception gone = gone
+    an_exception (here q) = here (record { argument = argument_in (λ x i. let h = i.0 in (omega (arith, h), i.1)) q.argument })
+
 -- the parts of a row at a node n, behind it
 module _ (n : ℕ) {hi : ℕ} {cs : List Child} (h : Spread (n + 1) hi cs) where
   -- the demands of a slot are those of other nodes, in the row's range
@@ -111,6 +162,9 @@ module _ (n : ℕ) {hi : ℕ} {cs : List Child} (h : Spread (n + 1) hi cs) where
 
   pub slot_in : (s : ℕ) → Lies (InSlot s h) (Range n hi)
   slot_in s x i = let (k, l) = slot_range s h x i in (omega (arith, k), l)
+
+  behind_node : Lies (Range (n + 1) hi) (Range n hi)
+  behind_node x i = let k = i.0 in (omega (arith, k), i.1)
 
   pub node_in : Lies (At n) (Range n hi)
   node_in x e = let k = spread_le h in (omega (arith, e), omega (arith, e, k))
@@ -172,6 +226,39 @@ module _ (n : ℕ) {hi : ℕ} {cs : List Child} (h : Spread (n + 1) hi cs) where
       by : (o : Option TypeExpression) → IfThere (ApartType (InSlot s h)) o → ApartType (InSlot s h) (elim o [ None ↦ no_type_at 0 (place 0 0) | Some t ↦ t ])
       by None absent = no_type_apart 0 (place 0 0)
       by (Some t) (there q) = q
+
+  -- the parts of a declaration
+  pub constructor_kind : (r : Row) → IfHere (ConstructorIn n hi) (constructor_of r n cs)
+  constructor_kind con_row = here (record { node = refl; fits = spread_le h; argument = argument_in (first_type_slot 2) })
+    where
+      argument_in : {o : Option TypeExpression} → IfThere (ApartType (InSlot 2 h)) o → IfThere (ApartType (Range (n + 1) hi)) o
+      argument_in absent = absent
+      argument_in (there q) = there (type_in_set (slot_range 2 h) q)
+  constructor_kind _ = gone
+
+  pub label_kind : (r : Row) → IfHere (LabelIn n hi) (label_of r n cs)
+  label_kind label_row = here (record { node = refl; fits = spread_le h; body = type_in_set (slot_range 3 h) (one_type_slot 3) })
+  label_kind _ = gone
+
+  pub told_kind : (r : Row) → IfHere (ApartTold (Range n hi)) (told_row r cs)
+  told_kind variant_row = here (told_in_set behind_node (constructors_apart (ranged_slot ConstructorIn (λ c. c.constructor) (λ l m c k. k.constructor) 1 h)))
+  told_kind record_row = here (told_in_set behind_node (labels_apart (ranged_slot LabelIn (λ c. c.label) (λ l m c k. k.label) 1 h)))
+  told_kind _ = gone
+
+  pub right_kind : (r : Row) → IfHere (ApartRight (Range n hi)) (right_side_row r n cs)
+  right_kind alias_row = here (another_apart n (type_in 0 cs) (last_token (tokens_of_slot 0 cs)) (one_type_slot 0)
+      (first_kind ApartTold (λ c. c.told) (λ P R t g q. told_in_set g q) (λ lo hi c k. k.told) 2 h) (slots_apart 0 2 refl h) (slot_others 0) (slot_others 2) (slot_in 0) (slot_in 2) node_in)
+  right_kind variant_row = own_right (told_kind variant_row)
+  right_kind record_row = own_right (told_kind record_row)
+  right_kind _ = gone
+
+  pub declaration_kind : (r : Row) → IfHere (ApartDeclaration n hi) (declaration_of r n cs)
+  declaration_kind decl_row = here (record { node = refl; fits = spread_le h; right = right_in (first_kind ApartRight (λ c. c.right_side) (λ P R r g q. right_in_set g q) (λ lo hi c k. k.right_side) 2 h) })
+    where
+      right_in : {o : Option RightSide} → IfHere (ApartRight (InSlot 2 h)) o → IfHere (ApartRight (Range (n + 1) hi)) o
+      right_in gone = gone
+      right_in (here q) = here (right_in_set (slot_range 2 h) q)
+  declaration_kind _ = gone
 
   split : (s t : ℕ) → (s == t) ≡ false → Apart (InSlot s h) (InSlot t h)
   split s t ne = slots_apart s t ne h

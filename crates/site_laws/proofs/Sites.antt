@@ -1,5 +1,5 @@
 -- Sets of sites, and conditions whose demands are made in a set, each once.
-use Rattle.std.proofs.Common.{◌≡◌, ◌∙◌, ◌⊎◌, inl, inr, ℕ, ◌+◌, ◌≤◌, ◌<◌, ◌==◌, Bool, true, false, List, [], ◌∷◌, ◌++◌, refl, sym, ap, subst, arith}
+use Rattle.std.proofs.Common.{◌≡◌, ◌∙◌, ◌⊎◌, inl, inr, ℕ, ◌+◌, ◌≤◌, ◌<◌, ◌==◌, Bool, true, false, List, [], ◌∷◌, ◌++◌, Option, Some, None, refl, sym, ap, subst, arith}
 use Rattle.std.proofs.lemmas.Bool.{eqb-true}
 use Rattle.type_model.proofs.Applying.{or_cases, or_left, or_right}
 use Rattle.tree_model.specs.Trees.{Place}
@@ -169,6 +169,11 @@ quiet {P} {xs} ys e h = widen (both_in (λ x i. i) (λ x i. absurd (i))) (join {
 -- conditions one after another that lie in one set
 pub then_within : {P Q R : Site → Type 0} {xs ys : List Condition} → Within P xs → Within Q ys → Apart P Q → Lies P R → Lies Q R → Within R (xs ++ ys)
 then_within h g apart f k = widen (both_in f k) (join h g apart)
+
+-- what may be none has a property if it is there
+pub data IfHere {X : Type 0} (Q : X → Type 1) : Option X → Type 1 where
+  gone : IfHere Q None
+  here : {x : X} → Q x → IfHere Q (Some x)
 
 -- each of a list asks within a set of its own, apart from those of the others
 pub data Every {X : Type 0} (Q : (Site → Type 0) → X → Type 0) : (P : Site → Type 0) → List X → Type 1 where

@@ -1,30 +1,32 @@
--- A text of `let` and `;;` makes each demand once.
+-- A text without modules makes each demand once.
 use Rattle.std.proofs.Common.{◌≡◌, ℕ, ◌+◌, ◌^◌, ◌≤◌, Bool, true, List, [], ◌∷◌, ◌++◌, Option, Some, None, refl, subst, arith}
 use Rattle.token_model.specs.Kinds.{Tok}
 use Rattle.tree_model.specs.Trees.{Place, Tree, Forest, Part, node, no_parts, part, taken, inner, missing, size_of, forest_size, part_size, part_yield}
-use Rattle.tree_model.specs.Rows.{Row, binding_row, case_row, ffield_row, qfield_row, let_row, break_row}
+use Rattle.tree_model.specs.Rows.{Row, binding_row, case_row, ffield_row, qfield_row, let_row, type_row, exception_row, break_row}
 use Rattle.signature_model.specs.Entries.{Environment}
 use Rattle.typing_model.specs.Demands.{Site, sites_of}
-use Rattle.typing_model.specs.Contexts.{Context, Choice, Bound, under}
-use Rattle.typing_model.specs.Parts.{Expression, Pattern, TypeExpression, FieldPattern, Item, Seen, seen_too, no_names, Child, token_in, path_in, no_expression_at, no_pattern_at, no_type_at, types_in, expression_in, expressions_in, pattern_in, patterns_in, first_of, place_of}
+use Rattle.typing_model.specs.Contexts.{Context, Choice, Bound, parameters, under}
+use Rattle.typing_model.specs.Parts.{Expression, Pattern, TypeExpression, ConstructorPart, FieldPattern, Item, Seen, seen_too, no_names, Child, in_slot, token_in, path_in, no_expression_at, no_pattern_at, no_type_at, types_in, expression_in, expressions_in, pattern_in, patterns_in, first_of, place_of}
 use Rattle.typing_model.specs.Bindings.{names_of_group}
 use Rattle.typing_model.specs.Expressions.{expression_row, bindings_in, is_some}
 use Rattle.typing_model.specs.Patterns.{pattern_row}
-use Rattle.typing_model.specs.TypeExpressions.{type_row}
-use Rattle.typing_model.specs.Items.{inside_item, names_made, items_ask}
+use Rattle.typing_model.specs.TypeExpressions as types
+use Rattle.typing_model.specs.Items.{inside_item, names_made, exception_item, items_ask}
 use Rattle.typing_model.specs.Modules.{item_row}
 use Rattle.typing_model.specs.Meanings.{binding_of, case_of, field_of, field_pattern_of, recorded_expression, recorded_pattern, recorded_type, recorded_item, node_child, leaf_child, children_of, child_of, tree_child, item_base, items_from}
 use Rattle.typing_model.specs.Typings.{outermost, conditions_of}
-use Rattle.typing_model.specs.Plain.{is_let_row, has_lets_alone}
+use Rattle.typing_model.specs.Plain.{is_plain_row, has_no_modules, has_lets_alone, has_values_alone}
 use Rattle.typing_laws.proofs.Bools.{no_yes, and_cases}
+use Rattle.typing_laws.proofs.Settled.{lets_plain, values_plain}
 use Rattle.typing_laws.proofs.Steady.{IfThere, absent, there}
-use Rattle.site_laws.proofs.Sites.{Distinct, Within, Either, widen, then_within, both_in, At, Range, told, known_too, quiet, none_within}
+use Rattle.site_laws.proofs.Sites.{IfHere, gone, here, Distinct, Within, Either, Lies, widen, then_within, both_in, At, Range, told, known_too, quiet, none_within}
 use Rattle.site_laws.proofs.Types.{ApartType, no_type_apart}
 use Rattle.site_laws.proofs.Patterns.{ApartPattern, ApartFieldPattern, no_pattern_apart, field_pattern_apart}
 use Rattle.site_laws.proofs.Expressions.{ApartExpression, no_expression_apart}
 use Rattle.site_laws.proofs.Records.{ApartField, ApartCase, field_apart, case_apart}
 use Rattle.site_laws.proofs.Bindings.{ApartBinding, binding_apart, bindings_apart}
-use Rattle.site_laws.proofs.Rows.{IfHere, gone, here, ApartChild, Spread, ends, more, InSlot, slots_apart, slot_others, slot_in, node_in, patterns_slot, first_expression, one_expression_slot, first_pattern, one_pattern_slot, first_type_slot, bindings_slot, expression_row_apart, pattern_row_apart, type_row_apart, wider}
+use Rattle.site_laws.proofs.Declarations.{optional_apart, group_within}
+use Rattle.site_laws.proofs.Rows.{ApartException, first_exception, declarations_slot, constructor_kind, label_kind, told_kind, right_kind, declaration_kind, ApartChild, Spread, ends, more, InSlot, slots_apart, slot_others, slot_in, node_in, patterns_slot, first_expression, one_expression_slot, first_pattern, one_pattern_slot, first_type_slot, bindings_slot, expression_row_apart, pattern_row_apart, type_row_apart, wider}
 
 -- a part that tells its environment first
 expression_told : {P : Site → Type 0} (n : ℕ) (e : Expression) → ApartExpression P e → ApartExpression P (recorded_expression n e)
@@ -65,11 +67,16 @@ node_apart : (slot : ℕ) (p : Part) (r : Row) (n : ℕ) (q : Place) {hi : ℕ} 
 node_apart slot p r n q cs h = record {
   expression = expression_told n (expression_row r n q cs) (expression_row_apart n h r q);
   pattern = pattern_told n (pattern_row r n q cs) (pattern_row_apart n h r q);
-  type_expression = type_told n (type_row r n q cs) (type_row_apart n h r q);
+  type_expression = type_told n (types.type_row r n q cs) (type_row_apart n h r q);
   binding = binding_kind r n cs h;
   case = case_kind r n cs h;
   field = field_kind r n cs h;
   field_pattern = field_pattern_kind r n cs h;
+  constructor = constructor_kind n h r;
+  label = label_kind n h r;
+  told = told_kind n h r;
+  right_side = right_kind n h r;
+  declaration = declaration_kind n h r;
 }
 
 leaf_apart : {lo hi : ℕ} (slot : ℕ) (p : Part) (n : ℕ) (q : Place) → ApartChild lo hi (leaf_child slot p n q)
@@ -81,6 +88,11 @@ leaf_apart slot p n q = record {
   case = absent;
   field = absent;
   field_pattern = absent;
+  constructor = gone;
+  label = gone;
+  told = gone;
+  right_side = gone;
+  declaration = gone;
 }
 
 mutual
@@ -105,12 +117,21 @@ made_silent : (n : ℕ) (c : Context) (bs : List Bound) → sites_of (names_made
 made_silent n c [] = refl
 made_silent n c (b ∷ bs) = made_silent n c bs
 
-row_apart : (r : Row) (n : ℕ) {hi : ℕ} (q : Place) (ts : List Tok) (cs : List Child) → is_let_row r ≡ true → Spread (n + 1) hi cs → IfThere (ApartItem (Range n hi)) (item_row r n q ts cs)
+exception_apart : {P : Site → Type 0} (n : ℕ) {k : Option ConstructorPart} → IfHere (ApartException P) k → ApartItem P (exception_item n k)
+exception_apart n gone = record { asks = λ c seen. none_within }
+exception_apart n (here s) = record { asks = λ c seen. told (optional_apart (record c { variables = parameters [] }) s.argument) }
+
+item_in_set : {P R : Site → Type 0} {i : Item} → Lies P R → ApartItem P i → ApartItem R i
+item_in_set g s = record { asks = λ c seen. widen g (s.asks c seen) }
+
+row_apart : (r : Row) (n : ℕ) {hi : ℕ} (q : Place) (ts : List Tok) (cs : List Child) → is_plain_row r ≡ true → Spread (n + 1) hi cs → IfThere (ApartItem (Range n hi)) (item_row r n q ts cs)
 unfolding item_row
 row_apart let_row n q ts cs e h = there (record {
   asks = λ c seen. quiet (names_made n (inside_item n ts c) (names_of_group (bindings_in 2 cs))) (made_silent n (inside_item n ts c) (names_of_group (bindings_in 2 cs)))
       (bindings_apart (inside_item n ts c) (is_some (token_in 1 cs)) (wider (slot_in n h 2) (bindings_slot 2 h)));
 })
+row_apart type_row n q ts cs e h = there (record { asks = λ c seen. widen (λ x i. let k = i.0 in (omega (arith, k), i.1)) (group_within c seen.types (declarations_slot 2 h)) })
+row_apart exception_row n q ts cs e h = there (item_in_set (slot_in n h 1) (exception_apart n (first_exception 1 h)))
 row_apart break_row n q ts cs e h = there (record { asks = λ c seen. none_within })
 row_apart _ n q ts cs e h = absurd (no_yes e)
 
@@ -132,10 +153,10 @@ items_lower : {lo k : ℕ} {is : List Item} → lo ≤ k → Items k is → Item
 items_lower le no_items = no_items
 items_lower le (and_item s f g rest) = and_item (record { asks = λ c seen. widen (λ x i. (let h = i.0 in omega (arith, le, h), i.1)) (s.asks c seen) }) (omega (arith, le, f)) g rest
 
-items_apart : (k : ℕ) (ts : List Tree) → has_lets_alone ts ≡ true → AreSmall ts → Items (item_base k) (items_from k ts)
+items_apart : (k : ℕ) (ts : List Tree) → has_no_modules ts ≡ true → AreSmall ts → Items (item_base k) (items_from k ts)
 items_apart k [] e small = no_items
 items_apart k (node r x ps ∷ ts) e (fits, small) =
-    let (first, others) = and_cases (is_let_row r) (has_lets_alone ts) e in
+    let (first, others) = and_cases (is_plain_row r) (has_no_modules ts) e in
     by (items_apart (k + 1) ts others small) (tree_child (item_base k) 0 (node r x ps)).item
     (item_told (item_base k) (item_row r (item_base k) x.span (part_yield (inner (node r x ps))) (children_of (item_base k + 1) r ps))
     (row_apart r (item_base k) x.span (part_yield (inner (node r x ps))) (children_of (item_base k + 1) r ps) first
@@ -151,6 +172,14 @@ items_within c seen no_items = none_within
 items_within c seen (and_item {i = i} s f g rest) =
     then_within (s.asks c seen) (items_within (under (i.adds c ++ c.env) c) (seen_too seen (i.named c)) rest) (λ x a b. let h = a.1 in omega (arith, g, h, b)) (λ x a. a.0) (λ x b. omega (arith, f, b))
 
--- A text of `let` and `;;` makes each demand once.
+-- A text without modules makes each demand once.
+pub plain_sites_apart : (env : Environment) (text : List Tree) → has_no_modules text ≡ true → AreSmall text → (kept : Site → Bool) (ch : Choice) → Distinct (sites_of (conditions_of env text kept ch))
+plain_sites_apart env text none small kept ch = (items_within (outermost env kept ch) no_names (items_apart 1 text none small)).once
+
+-- So does one of `let`, exceptions and `;;`,
+pub values_sites_apart : (env : Environment) (text : List Tree) → has_values_alone text ≡ true → AreSmall text → (kept : Site → Bool) (ch : Choice) → Distinct (sites_of (conditions_of env text kept ch))
+values_sites_apart env text values = plain_sites_apart env text (values_plain text values)
+
+-- and one of `let` and `;;` alone.
 pub sites_apart : (env : Environment) (text : List Tree) → has_lets_alone text ≡ true → AreSmall text → (kept : Site → Bool) (ch : Choice) → Distinct (sites_of (conditions_of env text kept ch))
-sites_apart env text lets small kept ch = (items_within (outermost env kept ch) no_names (items_apart 1 text lets small)).once
+sites_apart env text lets = plain_sites_apart env text (lets_plain text lets)

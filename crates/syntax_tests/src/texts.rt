@@ -1,5 +1,6 @@
-//! Edits of a text at every place, and the places of its positions.
+//! Changes of a list of bytes, edits of a text at every place, and the places of its positions.
 use crate::verdict::{none_wrong, wrong_unless};
+use gap_bytes::GapBytes;
 use std::alloc::Global;
 use std::test::Fail;
 use text_store::{Edit, TextRefusal, TextStore};
@@ -110,9 +111,16 @@ fn gives(
     edited(alloc, store, (1, 0), (1, col), text) == Ok(outcome) && store.len() == bytes
 }
 
+/// Whether two slices joined are this text.
+fn are_joined((left, right): (&[u8], &[u8]), text: &str) -> bool {
+    match text.as_bytes().strip_prefix(left) {
+        Some(rest) => right == rest,
+        None => false,
+    }
+}
+
 fn holds(store: &TextStore, text: &str) -> bool {
-    let (left, right) = store.slices();
-    left == text.as_bytes() && right.is_empty()
+    are_joined(store.slices(), text)
 }
 
 fn is_edited(alloc: Global, (start, end, text, outcome, after): EditRow) -> bool {
@@ -186,4 +194,43 @@ fn is_full(alloc: Global) -> bool {
 #[test]
 fn longest_text(rt: HostRuntime) -> Result<(), Fail> {
     none_wrong(wrong_unless(is_full(rt.alloc()), "the longest text"))
+}
+
+/// A change of a list of bytes: for how many room is made first, where the piece goes, how many bytes it takes the place of, the
+/// piece, and the bytes after it.
+type ChangeRow = (u32, u32, u32, &'static str, &'static str);
+
+/// Changes of one list after the other. Room is made before the last, so it can't fail.
+const CHANGES: [ChangeRow; 3] = [
+    (0, 0, 0, "abc", "abc"),
+    (0, 1, 1, "", "ac"),
+    (10, 1, 0, "xyz", "axyzc"),
+];
+
+/// Whether a change of a short list gives these bytes.
+fn is_changed(bytes: &mut GapBytes, (more, at, cut, piece, after): ChangeRow) -> bool {
+    let length = bytes.len();
+    length < 100
+        && piece.len() < 100
+        && at as u64 + cut as u64 <= length as u64
+        && bytes.reserve(more).is_ok()
+        && bytes.replace(at, cut, piece.as_bytes()).is_ok()
+        && bytes.len() as usize == after.len()
+        && are_joined(bytes.slices(), after)
+}
+
+/// The bytes after the first change that is wrong.
+fn wrong_change(alloc: Global) -> Option<&'static str> {
+    let mut bytes = GapBytes::new(alloc);
+    for row in &CHANGES {
+        if !is_changed(&mut bytes, *row) {
+            return Some(row.4);
+        }
+    }
+    None
+}
+
+#[test]
+fn changes_with_a_gap(rt: HostRuntime) -> Result<(), Fail> {
+    none_wrong(wrong_change(rt.alloc()))
 }

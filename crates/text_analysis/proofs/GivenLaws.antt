@@ -57,7 +57,7 @@ carried_split [] t c = (tt, c.0)
 carried_split (u ∷ ts) t c = let r = carried_split ts t c.1 in ((c.0, r.0), r.1)
 
 -- and so it is with those that leave open what is known of names
-kept_split : (ts : List Tree) (t : Tree) → AllKeep (operands_of (ts ++ t ∷ [])) → AllKeep (operands_of ts) × KeepsKnown (inner t)
+kept_split : (ts : List Tree) (t : Tree) → AllKeep (operands_of (ts ++ t ∷ [])) → AllKeep (operands_of ts) × KeepsKnown 0 (inner t)
 kept_split [] t k = (tt, k.0)
 kept_split (u ∷ ts) t k = let r = kept_split ts t k.1 in ((k.0, r.0), r.1)
 

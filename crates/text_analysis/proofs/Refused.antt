@@ -1,20 +1,22 @@
--- The faults of items that are `let` and `;;` alone: those of the demands that aren't kept, in order.
-use Rattle.std.proofs.Common.{◌≡◌, ◌∙◌, ◌⊎◌, inl, inr, ℕ, ◌<◌, ◌^◌, Bool, true, false, Option, None, Some, List, [], ◌∷◌, ◌++◌, map, refl, sym, ap, subst, arith, if◌then◌else◌}
+-- The faults of items that are `let`, `;;` and exceptions without an argument: those of the demands that aren't kept, in order.
+use Rattle.std.proofs.Common.{◌≡◌, ◌∙◌, inl, inr, ℕ, ◌<◌, ◌^◌, Bool, true, false, Option, None, Some, List, [], ◌∷◌, ◌++◌, map, refl, sym, ap, subst, arith, if◌then◌else◌}
 use Rattle.std.specs.Prelude.{All}
 use Rattle.std.proofs.lemmas.List.Elements.{All-head, All-tail}
 use Rattle.tree_model.specs.Rows as rows
 use Rattle.tree_model.specs.Rows.{Row}
-use Rattle.tree_model.specs.Trees.{Place, Tree, node, size_of}
+use Rattle.tree_model.specs.Trees.{Place, Tree, node, inner, size_of}
 use Rattle.signature_model.specs.Entries.{Environment}
 use Rattle.typing_laws.proofs.Bools.{no_yes, and_cases}
 use Rattle.typing_model.specs.First.{IsFirst}
-use Rattle.typing_model.specs.Plain.{is_let_row, has_lets_alone}
+use Rattle.typing_model.specs.Plain.{is_value_row, has_values_alone}
+use Rattle.fault_model.specs.Values.{is_bare_item, are_bare}
+use Rattle.parsed_rows.proofs.Bare.{constructor_bare}
 use Rattle.typing_model.specs.Typings.{conditions_of}
 use Rattle.type_nodes.specs.Nodes.{IsPlain}
 use Rattle.typing_model.specs.Demands.{Site, Complaint, Demand, equal, test, agrees, matches, closes, Condition, same, instance, made, known, demand, treated}
 use Rattle.typing_model.specs.Demands as complaint
 use Rattle.fault_model.specs.Refused as fault
-use Rattle.fault_model.specs.Refused.{kind_of_complaint, kind_asked, says_asked, says_by, Refused, refused_as, refused_of, standing, AreOfLets, AreRefused}
+use Rattle.fault_model.specs.Refused.{kind_of_complaint, kind_asked, says_asked, says_by, Refused, refused_as, refused_of, standing, AreOfValues, AreRefused}
 use Rattle.env_table.specs.declared.entries.Entry.{Entry}
 use Rattle.env_table.specs.declared.faults.Fault.{Fault}
 use Rattle.env_table.specs.declared.faults.FaultKind.{FaultKind}
@@ -31,14 +33,14 @@ use Rattle.typing_steps.specs.States.{is_warning, report_of, reports_of, sight, 
 use Rattle.typing_steps.proofs.Schemes.{plain_nodes}
 use Rattle.typing_rows.specs.Noted.{AreNoted}
 use Rattle.site_laws.proofs.Texts.{AreSmall}
-use Rattle.text_laws.proofs.Orderly.{lets_orderly}
+use Rattle.text_laws.proofs.Orderly.{values_orderly}
 use Rattle.text_laws.proofs.Kept.{met, text_kept}
 use Rattle.text_laws.proofs.Principal.{sure_principal}
 use Rattle.typing_conditions.proofs.Adequate.{kept_of}
 use Rattle.module_steps.specs.declared.scenes.Scene.{Scene}
-use Rattle.module_typing.specs.Items.{AllKeep}
+use Rattle.module_typing.specs.Items.{TakesNone, KeepsKnown, AllKeep}
 use Rattle.text_analysis.specs.Given.{operands_of, Given, Opens}
-use Rattle.text_analysis.proofs.Silent.{lets_are_carried}
+use Rattle.text_analysis.proofs.Silent.{values_are_carried}
 
 -- a report by its place and kind, and its message where that is fixed
 abbrev refused_at : Report → Refused
@@ -142,15 +144,19 @@ pub are_small : (ts : List Tree) → All (λ t. size_of t < 2 ^ 32) ts → AreSm
 are_small [] few = tt
 are_small (t ∷ ts) few = (let lt = All-head (λ u. size_of u < 2 ^ 32) t ts few in omega arith, are_small ts (All-tail (λ u. size_of u < 2 ^ 32) t ts few))
 
--- items that are `let` and `;;` alone leave it open to say that all is known of names
-pub all_keep : (ts : List Tree) → has_lets_alone ts ≡ true → AllKeep (operands_of ts)
-all_keep [] e = tt
-all_keep (node r x ps ∷ ts) e = let (first, others) = and_cases (is_let_row r) (has_lets_alone ts) e in (by r first, all_keep ts others)
+-- items that are `let`, `;;` and exceptions without an argument leave it open to say that all is known of names
+pub all_keep : (ts : List Tree) → has_values_alone ts ≡ true → are_bare ts ≡ true → AllKeep (operands_of ts)
+all_keep [] e bare = tt
+all_keep (node r x ps ∷ ts) e bare =
+    let (first, others) = and_cases (is_value_row r) (has_values_alone ts) e in
+    let (first_bare, others_bare) = and_cases (is_bare_item (node r x ps)) (are_bare ts) bare in
+    (by r first first_bare, all_keep ts others others_bare)
   where
-    by : (r : Row) → is_let_row r ≡ true → (r ≡ rows.let_row) ⊎ (r ≡ rows.break_row)
-    by rows.let_row h = inl refl
-    by rows.break_row h = inr refl
-    by _ h = absurd (no_yes h)
+    by : (q : Row) → is_value_row q ≡ true → is_bare_item (node q x ps) ≡ true → KeepsKnown 0 (inner (node q x ps))
+    by rows.let_row h b = inl refl
+    by rows.break_row h b = inr (inl refl)
+    by rows.exception_row h b = let f = constructor_bare 0 rows.exception_row x ps b in inr (inr (refl, subst TakesNone (sym f.at) f.none))
+    by _ h b = absurd (no_yes h)
 
 -- Numbers in an item are below 2^32.
 pub all_placed : (at : Parts) → ArePlaced (sight at)
@@ -167,16 +173,16 @@ all_placed at = record {
     typed_low i p m None e h = absurd (let z : None ≡ Some m = h in cc)
     typed_low i p m (Some z) e h = at.index.low i p z e
 
--- So where items that are `let` and `;;` alone were typed from the state after the prelude, the faults are those of the demands that aren't kept, each at its place, of its kind, and on names with its message.
-pub items_refused : {first : Parts} {env : List Entry} {items : List Tree} {last : Parts} {now : Scene} → Given first env items last now → Opens first env → IsPlain last.store.nodes → (names : Environment) → IsFirst names → AreOfLets items → AreRefused items (standing (map api.typer_fault_of (faults_of last)))
+-- So where items that are `let`, `;;` and such exceptions alone were typed from the state after the prelude, the faults are those of the demands that aren't kept, each at its place, of its kind, and on names with its message.
+pub items_refused : {first : Parts} {env : List Entry} {items : List Tree} {last : Parts} {now : Scene} → Given first env items last now → Opens first env → IsPlain last.store.nodes → (names : Environment) → IsFirst names → AreOfValues items → AreRefused items (standing (map api.typer_fault_of (faults_of last)))
 items_refused {first} {env} {items} {last} {now} given o plain names is_first t =
     let at = o.starts names is_first in
     let outside = at.starts.outside in
     let noted : AreNoted outside.older first = subst (λ U. AreNoted U first) (sym at.starts.older) at.noted in
-    let done = (given [] (λ ch. names) (lets_are_carried items t) o.aloud outside at.constants noted).done in
-    let sure = done.clear (at.known, all_keep items t.lets) (all_placed last) in
-    let (h, principal, own, alike) = sure_principal {env = names} {text = items} done.carried done.owners at.untyped outside.sound t.lets (are_small items t.few) (plain_nodes last.store.nodes plain) sure (all_placed last) in
-    let orderly = lets_orderly {env = names} {text = items} t.lets in
+    let done = (given [] (λ ch. names) (values_are_carried items t) o.aloud outside at.constants noted).done in
+    let sure = done.clear (at.known, all_keep items t.values t.bare) (all_placed last) in
+    let (h, principal, own, alike) = sure_principal {env = names} {text = items} done.carried done.owners at.untyped outside.sound t.values t.bare (are_small items t.few) (plain_nodes last.store.nodes plain) sure (all_placed last) in
+    let orderly = values_orderly {env = names} {text = items} t.values in
     let meets = met h in
     record {
       env = names;

@@ -6,9 +6,10 @@ use Rattle.tree_model.specs.Rows as rows
 use Rattle.tree_model.specs.Rows.{Row}
 use Rattle.tree_model.specs.Trees.{Tree, Extent, Forest, node, size_of}
 use Rattle.typing_model.specs.First.{program_items}
-use Rattle.typing_model.specs.Plain.{is_let_row, has_lets_alone}
+use Rattle.typing_model.specs.Plain.{is_value_row, has_values_alone}
 use Rattle.typing_model.specs.Typable.{AreTypable}
-use Rattle.fault_model.specs.Refused.{AreOfLets}
+use Rattle.fault_model.specs.Refused.{AreOfValues}
+use Rattle.fault_model.specs.Values.{is_bare_item, are_bare}
 use Rattle.typing_laws.proofs.Bools.{no_yes, and_cases, and_both}
 use Rattle.env_table.specs.declared.entries.Entry.{Entry}
 use Rattle.env_table.specs.declared.faults.Fault.{Fault}
@@ -22,7 +23,9 @@ use Rattle.typing_rows.specs.Noted.{AreNoted}
 use Rattle.binding_rows.specs.ItemRows.{IsCarriedItem}
 use Rattle.parsed_rows.specs.Items.{IsOtherItem}
 use Rattle.parsed_rows.proofs.Items.{lets_carried}
-use Rattle.text_laws.proofs.Once.{lets_plain}
+use Rattle.parsed_rows.proofs.Bare.{never_nameless}
+use Rattle.typing_laws.proofs.Settled.{lets_values, lets_plain}
+use Rattle.demand_laws.proofs.Bare.{lets_bare}
 use Rattle.text_laws.proofs.Silent.{text_silent}
 use Rattle.module_steps.specs.declared.scenes.Scene.{Scene}
 use Rattle.module_typing.specs.Items.{AreCarriedItems}
@@ -33,28 +36,33 @@ all_carried : (ts : List Tree) → All (IsCarriedItem 0) ts → AreCarriedItems 
 all_carried [] h = tt
 all_carried (t ∷ ts) h = (All-head (IsCarriedItem 0) t ts h, all_carried ts (All-tail (IsCarriedItem 0) t ts h))
 
--- an item that is a `let` or `;;` is of no other kind
-let_alone : (r : Row) (x : Extent) (ps : Forest) → is_let_row r ≡ true → IsOtherItem 0 (node r x ps) → ⊥
-let_alone rows.let_row x ps e (inl other) = other
-let_alone rows.let_row x ps e (inr (row, nameless)) = absurd (cc)
-let_alone rows.break_row x ps e (inl other) = other
-let_alone rows.break_row x ps e (inr (row, nameless)) = absurd (cc)
-let_alone _ x ps e other = absurd (no_yes e)
+-- an item that is a `let`, `;;` or an exception with a name and without an argument is of no other kind
+value_alone : (r : Row) (x : Extent) (ps : Forest) → is_value_row r ≡ true → is_bare_item (node r x ps) ≡ true → IsOtherItem 0 (node r x ps) → ⊥
+value_alone rows.let_row x ps e bare (inl other) = other
+value_alone rows.let_row x ps e bare (inr (row, nameless)) = absurd (cc)
+value_alone rows.exception_row x ps e bare (inl other) = other
+value_alone rows.exception_row x ps e bare (inr (row, nameless)) = never_nameless 0 rows.exception_row x ps bare nameless
+value_alone rows.break_row x ps e bare (inl other) = other
+value_alone rows.break_row x ps e bare (inr (row, nameless)) = absurd (cc)
+value_alone _ x ps e bare other = absurd (no_yes e)
 
 -- so is none of a text of these
-none_other : (ts : List Tree) → has_lets_alone ts ≡ true → All (λ t. IsOtherItem 0 t → ⊥) ts
-none_other [] e = All-nil (λ t. IsOtherItem 0 t → ⊥)
-none_other (node r x ps ∷ ts) e = let (first, others) = and_cases (is_let_row r) (has_lets_alone ts) e in All-cons (λ t. IsOtherItem 0 t → ⊥) (node r x ps) ts (let_alone r x ps first) (none_other ts others)
+none_other : (ts : List Tree) → has_values_alone ts ≡ true → are_bare ts ≡ true → All (λ t. IsOtherItem 0 t → ⊥) ts
+none_other [] e bare = All-nil (λ t. IsOtherItem 0 t → ⊥)
+none_other (node r x ps ∷ ts) e bare =
+    let (first, others) = and_cases (is_value_row r) (has_values_alone ts) e in
+    let (first_bare, others_bare) = and_cases (is_bare_item (node r x ps)) (are_bare ts) bare in
+    All-cons (λ t. IsOtherItem 0 t → ⊥) (node r x ps) ts (value_alone r x ps first first_bare) (none_other ts others others_bare)
 
--- items that are `let` and `;;` alone are carried
-pub lets_are_carried : (items : List Tree) → AreOfLets items → AreCarriedItems (operands_of items)
-lets_are_carried items t =
+-- items that are `let`, `;;` and such exceptions alone are carried
+pub values_are_carried : (items : List Tree) → AreOfValues items → AreCarriedItems (operands_of items)
+values_are_carried items t =
     all_carried items (subst (All (IsCarriedItem 0)) (sym t.parsed)
-    (lets_carried t.tokens (subst (All (λ u. size_of u < 2 ^ 32)) t.parsed t.few) (none_other (program_items t.tokens) (ap has_lets_alone (sym t.parsed) ∙ t.lets))))
+    (lets_carried t.tokens (subst (All (λ u. size_of u < 2 ^ 32)) t.parsed t.few) (none_other (program_items t.tokens) (ap has_values_alone (sym t.parsed) ∙ t.values) (ap are_bare (sym t.parsed) ∙ t.bare))))
 
 -- and so are items of a text that can be typed
 typable_carried : (items : List Tree) → AreTypable items → AreCarriedItems (operands_of items)
-typable_carried items t = lets_are_carried items (record { tokens = t.tokens; parsed = t.parsed; few = t.few; lets = t.lets })
+typable_carried items t = values_are_carried items (record { tokens = t.tokens; parsed = t.parsed; few = t.few; values = lets_values items t.lets; bare = lets_bare items t.lets })
 
 -- a kind that is a warning's is so for those who are told
 same_kind : (k : FaultKind) → is_warning k ≡ true → warnings.is_warning k ≡ true

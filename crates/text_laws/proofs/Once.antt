@@ -1,17 +1,17 @@
 -- A text that makes each demand once was judged once at each site: so what was judged is what is kept.
 use Rattle.std.proofs.Common.{◌≡◌, ◌∙◌, Bool, true, false, ◌||◌, if◌then◌else◌, List, [], ◌∷◌, ◌++◌, refl, sym, ap, subst, append_assoc}
 use Rattle.type_model.proofs.Applying.{or_left, or_right}
-use Rattle.tree_model.specs.Trees.{Tree, node}
-use Rattle.tree_model.specs.Rows.{Row, let_row, break_row}
+use Rattle.tree_model.specs.Trees.{Tree}
 use Rattle.signature_model.specs.Entries.{Environment}
 use Rattle.typing_model.specs.Demands.{Site, same_site, Condition, same, instance, made, known, demand, treated, sites_of}
 use Rattle.typing_model.specs.Typings.{is_site_among, conditions_of}
-use Rattle.typing_model.specs.Plain.{is_plain_row, has_no_modules, is_let_row, has_lets_alone}
-use Rattle.typing_laws.proofs.Bools.{no_yes, and_cases, and_both}
+use Rattle.typing_model.specs.Plain.{has_values_alone}
+use Rattle.typing_laws.proofs.Bools.{no_yes}
 use Rattle.typing_conditions.specs.Judging.{Judgement, judgements, Follows}
 use Rattle.typing_conditions.proofs.Adequate.{kept_of}
 use Rattle.site_laws.proofs.Sites.{Distinct}
-use Rattle.site_laws.proofs.Texts.{AreSmall, sites_apart}
+use Rattle.site_laws.proofs.Texts.{AreSmall, values_sites_apart}
+use Rattle.demand_laws.proofs.Bare.{neither}
 use Rattle.text_laws.specs.Texts.{sites_judged, AreApart, AsksOnce}
 use Rattle.text_laws.proofs.Sites.{one_site, same_as_itself, sites_of_judged}
 
@@ -43,10 +43,6 @@ not_before (x ∷ ss) s ts h = by (same_site s x) refl (not_before ss s ts h.1)
     by true e none = absurd (no_yes (sym h.0 ∙ subst (λ z. is_site_among z (ss ++ s ∷ ts) ≡ true) (one_site s x e) (in_middle ss s ts)))
     by false e none = (λ i. e i || none i)
 
-neither : (b c : Bool) → (b || c) ≡ false → (b ≡ false) × (c ≡ false)
-neither true c e = absurd (no_yes (sym e))
-neither false c e = (refl, e)
-
 -- the first judgement at a site is what is kept there
 kept_first : (before : List Judgement) (j : Judgement) (js : List Judgement) → is_site_among j.site (sites_judged before) ≡ false → kept_of (before ++ j ∷ js) j.site ≡ j.kept
 kept_first [] j js none = ap (λ t. if t then j.kept else kept_of js j.site) (same_as_itself j.site)
@@ -76,16 +72,6 @@ judged_once js cs follows once =
     let apart : Distinct (sites_of cs) = subst Distinct (sites_of_judged (kept_of js) cs) (distinct_here (judgements (kept_of js) cs) once) in
     apart_here js (subst Distinct (sym (sites_follow js [] js cs refl follows apart)) apart)
 
--- A text of `let` and `;;` whose items aren't too large makes each demand once.
-pub lets_once : (env : Environment) (text : List Tree) → has_lets_alone text ≡ true → AreSmall text → AsksOnce env text
-lets_once env text lets small kept ch = apart_here (judgements kept (conditions_of env text kept ch)) (subst Distinct (sym (sites_of_judged kept (conditions_of env text kept ch))) (sites_apart env text lets small kept ch))
-
-row_plain : (r : Row) → is_let_row r ≡ true → is_plain_row r ≡ true
-row_plain let_row e = refl
-row_plain break_row e = refl
-row_plain _ e = absurd (no_yes e)
-
--- it has no modules
-pub lets_plain : (text : List Tree) → has_lets_alone text ≡ true → has_no_modules text ≡ true
-lets_plain [] e = refl
-lets_plain (node r x ps ∷ ts) e = let (first, others) = and_cases (is_let_row r) (has_lets_alone ts) e in and_both (is_plain_row r) (has_no_modules ts) (row_plain r first) (lets_plain ts others)
+-- A text of `let`, exceptions and `;;` whose items aren't too large makes each demand once.
+pub values_once : (env : Environment) (text : List Tree) → has_values_alone text ≡ true → AreSmall text → AsksOnce env text
+values_once env text values small kept ch = apart_here (judgements kept (conditions_of env text kept ch)) (subst Distinct (sym (sites_of_judged kept (conditions_of env text kept ch))) (values_sites_apart env text values small kept ch))

@@ -1,4 +1,4 @@
--- Texts of `let` and `;;` are orderly, and in texts without modules no demand is that a body closes.
+-- Texts of `let`, exceptions and `;;` are orderly, and in texts without modules no demand is that a body closes.
 use Rattle.std.proofs.Common.{◌≡◌, ◌∙◌, Bool, true, List, refl, sym, ap}
 use Rattle.type_model.proofs.Applying.{or_right}
 use Rattle.tree_model.specs.Trees.{Tree}
@@ -6,26 +6,26 @@ use Rattle.signature_model.specs.Entries.{Environment}
 use Rattle.typing_model.specs.Demands.{Site, same_site, Demand, equal, test, agrees, matches, closes, Condition, sites_of}
 use Rattle.typing_model.specs.Contexts.{Choice}
 use Rattle.typing_model.specs.Typings.{conditions_of, no_choice, demands_of, is_site_among, sites_before}
-use Rattle.typing_model.specs.Plain.{has_no_modules, has_lets_alone}
+use Rattle.typing_model.specs.Plain.{has_no_modules, has_values_alone}
 use Rattle.typing_laws.proofs.Together.{is_end}
-use Rattle.typing_laws.proofs.Settled.{lets_settled}
+use Rattle.typing_laws.proofs.Settled.{values_settled}
 use Rattle.typing_laws.proofs.Quiet.{Quiet, silence, q_demand, q_same, q_instance, q_made, q_known, q_treated}
 use Rattle.typing_laws.proofs.QuietTexts.{text_quiet}
 use Rattle.typing_conditions.specs.Judging.{is_closing, judgements}
-use Rattle.demand_laws.proofs.Texts.{asks_alike}
+use Rattle.demand_laws.proofs.Texts.{values_ask_alike}
 use Rattle.text_laws.specs.Texts.{sites_judged, NoneCloses, AsksAlike, IsOrderly}
 use Rattle.text_laws.proofs.Sites.{sites_of_judged}
 
--- A text of `let` and `;;` is orderly.
-pub lets_orderly : {env : Environment} {text : List Tree} → has_lets_alone text ≡ true → IsOrderly env text
-lets_orderly {env} {text} lets = record {
+-- A text of `let`, exceptions and `;;` is orderly.
+pub values_orderly : {env : Environment} {text : List Tree} → has_values_alone text ≡ true → IsOrderly env text
+values_orderly {env} {text} values = record {
   alike = alike;
   settled = λ kept others ch s agree.
-      lets_settled env text kept others ch s lets (λ x i. agree x (or_right (same_site x s) (is_site_among x (sites_before s (demands_of env text kept))) (ap (λ sites. is_site_among x (sites_before s sites)) (sites_here kept ch) ∙ i)));
+      values_settled env text kept others ch s values (λ x i. agree x (or_right (same_site x s) (is_site_among x (sites_before s (demands_of env text kept))) (ap (λ sites. is_site_among x (sites_before s sites)) (sites_here kept ch) ∙ i)));
 }
   where
     alike : AsksAlike env text
-    alike = asks_alike env text lets
+    alike = values_ask_alike env text values
 
     sites_here : (kept : Site → Bool) (ch : Choice) → demands_of env text kept ≡ sites_of (conditions_of env text kept ch)
     sites_here kept ch =

@@ -1,8 +1,8 @@
--- The items of a text of `let` and `;;` have numbers of their own, so what they left belongs to different ones.
-use Rattle.std.proofs.Common.{◌≡◌, ◌∙◌, ℕ, zero, suc, ◌+◌, ◌≤◌, true, Option, Some, None, List, [], ◌∷◌, refl, subst, arith}
+-- The items of a text of `let`, `;;` and exceptions without an argument have numbers of their own, so what they left belongs to different ones.
+use Rattle.std.proofs.Common.{◌≡◌, ◌∙◌, ℕ, zero, suc, ◌+◌, ◌≤◌, Bool, true, Option, Some, None, List, [], ◌∷◌, refl, sym, subst, arith}
 use Rattle.std.specs.Prelude.{slice_get}
 use Rattle.std.proofs.lemmas.Bool.{ne_eqb}
-use Rattle.tree_model.specs.Rows.{Row, let_row, break_row}
+use Rattle.tree_model.specs.Rows.{Row, let_row, exception_row, break_row}
 use Rattle.tree_model.specs.Trees.{Tree, Place, node}
 use Rattle.token_model.specs.Kinds.{Tok}
 use Rattle.type_model.specs.Types.{Typ, Var}
@@ -10,16 +10,18 @@ use Rattle.signature_model.specs.Declarations.{built_in}
 use Rattle.signature_model.specs.Entries.{entry, a_value}
 use Rattle.typing_model.specs.Bindings.{names_of_group, held_by}
 use Rattle.typing_model.specs.Contexts.{Bound, Context, monomorphic, generalised_in}
-use Rattle.typing_model.specs.Items.{inside_item, value_components}
+use Rattle.typing_model.specs.Items.{inside_item, value_components, exception_components, exception_item}
 use Rattle.typing_model.specs.Expressions.{bindings_in}
-use Rattle.typing_model.specs.Parts.{Item, Child}
+use Rattle.typing_model.specs.Parts.{ConstructorPart, Item, Child}
 use Rattle.typing_model.specs.Typings.{outermost, no_choice}
 use Rattle.typing_model.specs.Modules.{item_row}
 use Rattle.typing_model.specs.Meanings.{recorded_item, tree_child, item_base, items_from, items_of}
-use Rattle.typing_model.specs.Plain.{is_let_row, has_lets_alone}
+use Rattle.typing_model.specs.Plain.{is_value_row, has_values_alone}
+use Rattle.fault_model.specs.Values.{is_bare_item, are_bare}
 use Rattle.typing_laws.proofs.Bools.{no_yes, and_cases}
 use Rattle.binding_rows.specs.Outside.{Left}
 use Rattle.binding_rows.specs.ItemRows.{AreDeclared, AreOwned, none_owned, leaves_none, leaves_types, leaves_one}
+use Rattle.demand_laws.proofs.Bare.{TakesNone, constructor_among, IsBareRow, item_bare}
 use Rattle.text_laws.specs.Reading.{OwnersApart}
 
 -- no item that left something has a lower number
@@ -68,26 +70,39 @@ values_alone : (held : List Typ) (c : Context) (bs : List Bound) → AreDeclared
 values_alone held c [] h = h
 values_alone held c (b ∷ bs) h = no_yes (h zero)
 
-row_numbered : (r : Row) (n : ℕ) (at : Place) (ts : List Tok) (cs : List Child) → is_let_row r ≡ true → IsNumbered n (item_row r n at ts cs)
+-- an exception of such a one declares nothing
+none_declared : (k : ConstructorPart) → k.argument ≡ None → AreDeclared (exception_components open_context k) → ⊥
+none_declared k e h = by k.name (subst (λ o. AreDeclared (exception_components open_context (record k { argument = o }))) e h)
+  where
+    by : (o : Option Tok) → AreDeclared (exception_components open_context (record k { name = o; argument = None })) → ⊥
+    by None g = g
+    by (Some t) g = g
+
+exception_numbered : (n : ℕ) (o : Option ConstructorPart) → TakesNone o → IsNumbered n (Some (exception_item n o))
+exception_numbered n None none = (refl, λ h. h)
+exception_numbered n (Some k) none = (refl, none_declared k none)
+
+row_numbered : (r : Row) (n : ℕ) (at : Place) (ts : List Tok) (cs : List Child) → is_value_row r ≡ true → IsBareRow r cs → IsNumbered n (item_row r n at ts cs)
 unfolding item_row
-row_numbered let_row n at ts cs e = (refl, values_alone (held_by (inside_item n ts open_context) (bindings_in 2 cs)) (inside_item n ts open_context) (names_of_group (bindings_in 2 cs)))
-row_numbered break_row n at ts cs e = (refl, λ h. h)
-row_numbered _ n at ts cs e = absurd (no_yes e)
+row_numbered let_row n at ts cs e bare = (refl, values_alone (held_by (inside_item n ts open_context) (bindings_in 2 cs)) (inside_item n ts open_context) (names_of_group (bindings_in 2 cs)))
+row_numbered exception_row n at ts cs e bare = exception_numbered n (constructor_among cs) bare
+row_numbered break_row n at ts cs e bare = (refl, λ h. h)
+row_numbered _ n at ts cs e bare = absurd (no_yes e)
 
 recorded_numbered : (n : ℕ) (i : Option Item) → IsNumbered n i → IsNumbered n (recorded_item n i)
 recorded_numbered n None h = h
 recorded_numbered n (Some m) h = h
 
-tree_numbered : (k : ℕ) (t : Tree) (ts : List Tree) → has_lets_alone (t ∷ ts) ≡ true → IsNumbered (item_base k) (tree_child (item_base k) 0 t).item
-tree_numbered k (node r x ps) ts e =
-    recorded_numbered (item_base k) (item_row r (item_base k) x.span _ _) (row_numbered r (item_base k) x.span _ _ (and_cases (is_let_row r) (has_lets_alone ts) e).0)
+tree_numbered : (k : ℕ) (t : Tree) (ts : List Tree) → has_values_alone (t ∷ ts) ≡ true → are_bare (t ∷ ts) ≡ true → IsNumbered (item_base k) (tree_child (item_base k) 0 t).item
+tree_numbered k (node r x ps) ts e bare =
+    recorded_numbered (item_base k) (item_row r (item_base k) x.span _ _) (row_numbered r (item_base k) x.span _ _ (and_cases (is_value_row r) (has_values_alone ts) e).0 (item_bare (item_base k + 1) r x ps (and_cases (is_bare_item (node r x ps)) (are_bare ts) bare).0))
 
-lets_after : (t : Tree) (ts : List Tree) → has_lets_alone (t ∷ ts) ≡ true → has_lets_alone ts ≡ true
-lets_after (node r x ps) ts e = (and_cases (is_let_row r) (has_lets_alone ts) e).1
+values_after : (t : Tree) (ts : List Tree) → has_values_alone (t ∷ ts) ≡ true → has_values_alone ts ≡ true
+values_after (node r x ps) ts e = (and_cases (is_value_row r) (has_values_alone ts) e).1
 
-items_owned : (k : ℕ) (ts : List Tree) → has_lets_alone ts ≡ true → (ls : List Left) → AreOwned (items_from k ts) ls → Owned (item_base k) ls
-items_owned k [] e ls h = owned_none (item_base k) h
-items_owned k (t ∷ ts) e ls h = by (tree_child (item_base k) 0 t).item (tree_numbered k t ts e) (items_owned (k + 1) ts (lets_after t ts e)) ls h
+items_owned : (k : ℕ) (ts : List Tree) → has_values_alone ts ≡ true → are_bare ts ≡ true → (ls : List Left) → AreOwned (items_from k ts) ls → Owned (item_base k) ls
+items_owned k [] e bare ls h = owned_none (item_base k) h
+items_owned k (t ∷ ts) e bare ls h = by (tree_child (item_base k) 0 t).item (tree_numbered k t ts e bare) (items_owned (k + 1) ts (values_after t ts e) (and_cases (is_bare_item t) (are_bare ts) bare).1) ls h
   where
     by : (o : Option Item) → IsNumbered (item_base k) o → ((ks : List Left) → AreOwned (items_from (k + 1) ts) ks → Owned (item_base (k + 1)) ks) → (ls : List Left) →
         AreOwned (elim o [ None ↦ items_from (k + 1) ts | Some m ↦ m ∷ items_from (k + 1) ts ]) ls → Owned (item_base k) ls
@@ -95,5 +110,5 @@ items_owned k (t ∷ ts) e ls h = by (tree_child (item_base k) 0 t).item (tree_n
     by (Some m) numbered others ls h = owned_more (item_base k) (item_base (k + 1)) numbered.0 numbered.1 (omega arith) others h
 
 -- So what the items of such a text left belongs to different ones.
-pub owners_apart : (text : List Tree) → has_lets_alone text ≡ true → {ls : List Left} → AreOwned (items_of text) ls → OwnersApart ls
-owners_apart text lets {ls} h = (items_owned 1 text lets ls h).apart
+pub owners_apart : (text : List Tree) → has_values_alone text ≡ true → are_bare text ≡ true → {ls : List Left} → AreOwned (items_of text) ls → OwnersApart ls
+owners_apart text values bare {ls} h = (items_owned 1 text values bare ls h).apart

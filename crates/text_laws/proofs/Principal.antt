@@ -25,13 +25,14 @@ use Rattle.typing_conditions.proofs.Roots.{own_reads}
 use Rattle.binding_rows.specs.Outside.{Left, letters_left, ContinuesItems, ItemsCarried}
 use Rattle.binding_rows.specs.ItemRows.{AreOwned}
 use Rattle.typing_model.specs.Meanings.{items_of}
-use Rattle.typing_model.specs.Plain.{has_lets_alone}
+use Rattle.typing_model.specs.Plain.{has_values_alone}
+use Rattle.fault_model.specs.Values.{are_bare}
 use Rattle.site_laws.proofs.Texts.{AreSmall}
 use Rattle.text_laws.specs.Texts.{text_asks, IsTyped}
 use Rattle.typing_conditions.specs.Hiding.{plain_key, is_own, ArePlaced, NoneDoubtful}
 use Rattle.text_laws.specs.Reading.{node_for, recorded_at, type_or, first_there, read_choice, DoubtfulAreOne}
 use Rattle.text_laws.proofs.Kept.{met, enters}
-use Rattle.text_laws.proofs.Reading.{own_is, value_plain, text_typed, lets_typed, none_doubted}
+use Rattle.text_laws.proofs.Reading.{own_is, value_plain, text_typed, values_typed, none_doubted}
 
 place_inside : {A : Type 0} {x : A} (xs : List A) (k : ℕ) → slice_get xs k ≡ Some x → k < length xs
 place_inside [] k e = absurd (cc)
@@ -132,17 +133,17 @@ text_principal {env} {text} {kept} {a} {b} {G} h own_types read = record {
               ∙ ap (λ (ch : Choice). apply (gives (length b.nodes) goes.types fits.choice) (ch.type_at n)) (sym read),
         )
 
--- So the types that a text of `let` and `;;` was found to have are a principal typing of it, with the demands that were kept, where doubtful letters have one type for one thing at the nodes' own types. They are those types, and what was carried is what was given.
-pub lets_principal : {env : Environment} {text : List Tree} {a b : Sight} {G : Letters} (p : ItemsCarried (λ ch. env) (text_asks text) a [] b G) → AreOwned (items_of text) p.left → ((i k : ℕ) → a.types i k ≡ None) → IsSound a.nodes → has_lets_alone text ≡ true → AreSmall text → IsPlain b.nodes →
+-- So the types that a text of `let`, `;;` and exceptions without an argument was found to have are a principal typing of it, with the demands that were kept, where doubtful letters have one type for one thing at the nodes' own types. They are those types, and what was carried is what was given.
+pub values_principal : {env : Environment} {text : List Tree} {a b : Sight} {G : Letters} (p : ItemsCarried (λ ch. env) (text_asks text) a [] b G) → AreOwned (items_of text) p.left → ((i k : ℕ) → a.types i k ≡ None) → IsSound a.nodes → has_values_alone text ≡ true → are_bare text ≡ true → AreSmall text → IsPlain b.nodes →
     (J : Types) → IsOwn b.nodes J → DoubtfulAreOne J b (letters_left p.left) → (h : IsTyped env text (kept_of p.judged) a b G) × IsPrincipal env text (kept_of p.judged) h.choice.type_at × IsOwn b.nodes h.types × (h.carried ≡ p)
-unfolding lets_typed text_typed
-lets_principal {env} {text} {b = b} {G = G} p owned none sound lets small plain J own rest =
-    let h = lets_typed {env = env} {text = text} p owned none sound lets small J (own_reads b.nodes J own) (own.known plain) rest in
+unfolding values_typed text_typed
+values_principal {env} {text} {b = b} {G = G} p owned none sound values bare small plain J own rest =
+    let h = values_typed {env = env} {text = text} p owned none sound values bare small J (own_reads b.nodes J own) (own.known plain) rest in
     (h, text_principal {env = env} {text = text} h own refl, own, refl)
 
 -- The same where none is doubtful: nothing is asked of types then.
-pub sure_principal : {env : Environment} {text : List Tree} {a b : Sight} {G : Letters} (p : ItemsCarried (λ ch. env) (text_asks text) a [] b G) → AreOwned (items_of text) p.left → ((i k : ℕ) → a.types i k ≡ None) → IsSound a.nodes → has_lets_alone text ≡ true → AreSmall text → IsPlain b.nodes →
+pub sure_principal : {env : Environment} {text : List Tree} {a b : Sight} {G : Letters} (p : ItemsCarried (λ ch. env) (text_asks text) a [] b G) → AreOwned (items_of text) p.left → ((i k : ℕ) → a.types i k ≡ None) → IsSound a.nodes → has_values_alone text ≡ true → are_bare text ≡ true → AreSmall text → IsPlain b.nodes →
     NoneDoubtful (letters_left p.left) → ArePlaced b → (h : IsTyped env text (kept_of p.judged) a b G) × IsPrincipal env text (kept_of p.judged) h.choice.type_at × IsOwn b.nodes h.types × (h.carried ≡ p)
-sure_principal {env} {text} {b = b} p owned none sound lets small plain sure placed =
+sure_principal {env} {text} {b = b} p owned none sound values bare small plain sure placed =
     let (J, own) = own_of b.nodes (p.stays.sound sound) in
-    lets_principal {env = env} {text = text} p owned none sound lets small plain J own (none_doubted J (letters_left p.left) sure placed)
+    values_principal {env = env} {text = text} p owned none sound values bare small plain J own (none_doubted J (letters_left p.left) sure placed)

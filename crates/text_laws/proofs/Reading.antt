@@ -15,7 +15,8 @@ use Rattle.typing_model.specs.Contexts.{Choice}
 use Rattle.typing_model.specs.Demands.{Site}
 use Rattle.typing_model.specs.Meanings.{items_of}
 use Rattle.typing_model.specs.Typings.{outermost, conditions_of}
-use Rattle.typing_model.specs.Plain.{has_no_modules, has_lets_alone}
+use Rattle.typing_model.specs.Plain.{has_no_modules, has_values_alone}
+use Rattle.fault_model.specs.Values.{are_bare}
 use Rattle.type_nodes.specs.Nodes.{Node, IsSound}
 use Rattle.type_nodes.specs.Readings.{Types, IsReading}
 use Rattle.typing_laws.proofs.Bools.{no_yes, and_cases, and_both}
@@ -34,7 +35,8 @@ use Rattle.text_laws.specs.Reading.{node_for, recorded_at, written_at, type_or, 
 use Rattle.text_laws.proofs.Sites.{kept_as_judged, kept_among}
 use Rattle.text_laws.proofs.Orderly.{none_closing}
 use Rattle.text_laws.proofs.Owners.{owners_apart}
-use Rattle.text_laws.proofs.Once.{judged_once, lets_once, lets_plain}
+use Rattle.text_laws.proofs.Once.{judged_once, values_once}
+use Rattle.typing_laws.proofs.Settled.{values_plain}
 
 -- a key is what it is tested for
 pub own_is : (n : ℕ) (key : Key) → is_own n key ≡ true → key ≡ own n
@@ -262,10 +264,10 @@ text_typed {env} {text} {b = b} {G = G} p none sound once plain V reads known re
       reads = there;
     }
 
--- The same of a text of `let` and `;;`, whose items aren't too large, where what was left was left by its items.
-unfoldable pub lets_typed : {env : Environment} {text : List Tree} {a b : Sight} {G : Letters} (p : ItemsCarried (λ ch. env) (text_asks text) a [] b G) → AreOwned (items_of text) p.left → ((i k : ℕ) → a.types i k ≡ None) → IsSound a.nodes → has_lets_alone text ≡ true → AreSmall text →
+-- The same of a text of `let`, `;;` and exceptions without an argument, whose items aren't too large, where what was left was left by its items.
+unfoldable pub values_typed : {env : Environment} {text : List Tree} {a b : Sight} {G : Letters} (p : ItemsCarried (λ ch. env) (text_asks text) a [] b G) → AreOwned (items_of text) p.left → ((i k : ℕ) → a.types i k ≡ None) → IsSound a.nodes → has_values_alone text ≡ true → are_bare text ≡ true → AreSmall text →
     (V : Types) → IsReading b.nodes V → ((m : ℕ) → IsKnown (V m)) → DoubtfulAreOne V b (letters_left p.left) → IsTyped env text (kept_of p.judged) a b G
-lets_typed {env} {text} p owned none sound lets small V reads known one = text_typed {text = text} p none sound (lets_once env text lets small) (lets_plain text lets) V reads known one (owners_apart text lets owned)
+values_typed {env} {text} p owned none sound values bare small V reads known one = text_typed {text = text} p none sound (values_once env text values small) (values_plain text values) V reads known one (owners_apart text values bare owned)
 
 -- Nothing is asked for where none is doubtful.
 pub none_doubted : (V : Types) {b : Sight} (left : Letters) → NoneDoubtful left → ArePlaced b → DoubtfulAreOne V b left
@@ -275,7 +277,7 @@ none_doubted V left sure placed = record {
   places = placed;
 }
 
--- So a text of `let` and `;;`, after which none of the letters that are left is doubtful, is a typed text at each such reading.
-pub sure_typed : {env : Environment} {text : List Tree} {a b : Sight} {G : Letters} (p : ItemsCarried (λ ch. env) (text_asks text) a [] b G) → AreOwned (items_of text) p.left → ((i k : ℕ) → a.types i k ≡ None) → IsSound a.nodes → has_lets_alone text ≡ true → AreSmall text →
+-- So such a text, after which none of the letters that are left is doubtful, is a typed text at each such reading.
+pub sure_typed : {env : Environment} {text : List Tree} {a b : Sight} {G : Letters} (p : ItemsCarried (λ ch. env) (text_asks text) a [] b G) → AreOwned (items_of text) p.left → ((i k : ℕ) → a.types i k ≡ None) → IsSound a.nodes → has_values_alone text ≡ true → are_bare text ≡ true → AreSmall text →
     NoneDoubtful (letters_left p.left) → ArePlaced b → (V : Types) → IsReading b.nodes V → ((m : ℕ) → IsKnown (V m)) → IsTyped env text (kept_of p.judged) a b G
-sure_typed {env} {text} p owned none sound lets small sure placed V reads known = lets_typed {text = text} p owned none sound lets small V reads known (none_doubted V (letters_left p.left) sure placed)
+sure_typed {env} {text} p owned none sound values bare small sure placed V reads known = values_typed {text = text} p owned none sound values bare small V reads known (none_doubted V (letters_left p.left) sure placed)

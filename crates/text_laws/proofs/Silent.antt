@@ -16,7 +16,7 @@ use Rattle.typing_conditions.specs.Judging.{Judgement, judged_at, judgements, re
 use Rattle.binding_rows.specs.Outside.{EntersItems, ContinuesItems, ItemsCarried}
 use Rattle.text_laws.specs.Texts.{text_asks, NoneCloses}
 use Rattle.text_laws.proofs.Orderly.{none_closing}
-use Rattle.text_laws.proofs.Once.{lets_plain}
+use Rattle.typing_laws.proofs.Settled.{lets_plain}
 
 -- each choice enters a state in which nothing is recorded
 pub enters_first : {env : Environment} {a : Sight} → ((i p : ℕ) → a.types i p ≡ None) → (sound : IsSound a.nodes) → (k : Site → Bool) (ch : Choice) → EntersItems (λ other. env) a [] (identity sound.0 a.nodes) (outermost env k ch)

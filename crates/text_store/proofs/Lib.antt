@@ -1,3 +1,4 @@
 pub mod LineStarts
 pub mod LinePlaces
 pub mod Outcomes
+pub mod Wholes

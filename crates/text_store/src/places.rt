@@ -5,13 +5,14 @@ ghost use Rattle.text_model.specs.Positions.{offset};
 ghost use Rattle.text_model.specs.Edits.{text_limit};
 ghost use Rattle.text_store.specs.Starts.{HasStarts, PartsAt};
 
+use gap_bytes::GapBytes;
 use text_terms::Pos;
 
 /// The offset of a position, or None where the text has no such position. It looks at two starts.
-pub fn find_offset(text: &[u8], starts: &[u32], at: Pos) -> Option<u32>
-    requires short { length text.now ≤ text_limit }
-    requires starts { HasStarts text.now starts.now }
-    ensures { result ≡ offset text.now at.line at.col }
+pub fn find_offset(text: &GapBytes, starts: &[u32], at: Pos) -> Option<u32>
+    requires short { length text.now.items ≤ text_limit }
+    requires starts { HasStarts text.now.items starts.now }
+    ensures { result ≡ offset text.now.items at.line at.col }
 {
     if at.line == 0 {
         return None;
@@ -29,11 +30,11 @@ pub fn find_offset(text: &[u8], starts: &[u32], at: Pos) -> Option<u32>
 }
 
 /// The position of a place up to the text's end. It halves the starts.
-pub fn find_position(text: &[u8], starts: &[u32], place: u32) -> Pos
-    requires short { length text.now ≤ text_limit }
-    requires starts { HasStarts text.now starts.now }
-    requires within { place ≤ length text.now }
-    ensures { offset text.now result.line result.col ≡ Some place }
+pub fn find_position(text: &GapBytes, starts: &[u32], place: u32) -> Pos
+    requires short { length text.now.items ≤ text_limit }
+    requires starts { HasStarts text.now.items starts.now }
+    requires within { place ≤ length text.now.items }
+    ensures { offset text.now.items result.line result.col ≡ Some place }
 {
     let below = starts_until(starts, place);
     Pos {
@@ -51,11 +52,11 @@ fn line_start(starts: &[u32], below: usize) -> u32
 }
 
 // Where the next line starts, or would start behind the text.
-fn next_start(text: &[u8], starts: &[u32], below: usize) -> u32
-    requires { length text.now ≤ text_limit }
-    ensures { result ≡ slice_index_or starts.now below (length text.now + 1) }
+fn next_start(text: &GapBytes, starts: &[u32], below: usize) -> u32
+    requires { length text.now.items ≤ text_limit }
+    ensures { result ≡ slice_index_or starts.now below (length text.now.items + 1) }
 {
-    starts.get(below).copied().unwrap_or(text.len() as u32 + 1)
+    starts.get(below).copied().unwrap_or(text.len() + 1)
 }
 
 /// How many of the starts are at most `place`.

@@ -4,6 +4,7 @@ ghost use Rattle.text_model.specs.Edits.{apply, text_limit};
 ghost use Rattle.text_store.specs.Starts.{starts_from, HasStarts, AllBehind, AllMovable};
 
 use crate::places::starts_until;
+use gap_bytes::GapBytes;
 use std::alloc::{AllocError, Global};
 use text_terms::NoMemory;
 
@@ -64,17 +65,17 @@ fn put_starts(
 pub fn change_starts(
     alloc: Global,
     starts: &mut Vec<u32>,
-    text: &[u8],
+    text: &GapBytes,
     start: u32,
     end: u32,
     piece: &[u8],
 ) -> Result<(), NoMemory>
-    requires starts { HasStarts text.now starts.old.items }
-    requires short { length text.now ≤ text_limit }
+    requires starts { HasStarts text.now.items starts.old.items }
+    requires short { length text.now.items ≤ text_limit }
     requires order { start ≤ end }
-    requires within { end ≤ length text.now }
-    requires room { length (apply text.now start end piece.now) ≤ text_limit }
-    ensures { MatchResult result (λ _. HasStarts (apply text.now start end piece.now) starts.new.items) (λ _. starts.new.items ≡ starts.old.items) }
+    requires within { end ≤ length text.now.items }
+    requires room { length (apply text.now.items start end piece.now) ≤ text_limit }
+    ensures { MatchResult result (λ _. HasStarts (apply text.now.items start end piece.now) starts.new.items) (λ _. starts.new.items ≡ starts.old.items) }
 {
     let from = starts_until(starts.as_slice(), start);
     let to = starts_until(starts.as_slice(), end);

@@ -1,19 +1,20 @@
 // The text as one value.
-ghost use Rattle.std.specs.Prelude.{◌≡◌, ◌+◌, ◌≤◌, false, [], ◌++◌, length, Some, MatchResult, OnErr, IsOk, IfOk, IfErr};
+ghost use Rattle.std.specs.Prelude.{◌≡◌, ◌≤◌, false, [], ◌++◌, length, Some, MatchResult, OnOk, OnErr, IfOk, IfErr};
 ghost use Rattle.std.specs.Str.{IsUtf8};
-ghost use Rattle.std.specs.String.{string_bytes, string_len, string_capacity};
 ghost use Rattle.text_model.specs.Lines.{lines_of};
 ghost use Rattle.text_model.specs.Positions.{offset, position_of};
 ghost use Rattle.text_model.specs.Edits.{apply, changed, outcome_of, text_limit, is_inside_char};
 ghost use Rattle.text_terms.specs.Bytes.{str_bytes};
 ghost use Rattle.text_store.specs.Edits.{edit_of, IsRefusal};
+ghost use Rattle.text_store.specs.Starts.{HasStarts};
 
 use crate::edits::{Edit, TextRefusal, places_of};
 use crate::places::{find_offset, find_position};
 use crate::starts::change_starts;
+use gap_bytes::GapBytes;
 use std::alloc::Global;
 use std::marker::Model;
-use text_terms::Pos;
+use text_terms::{NoMemory, Pos};
 
 /// The line doesn't exist, or the column is past the line's end.
 #[derive(Clone, Copy, Debug, PartialEq, Eq)]
@@ -22,7 +23,7 @@ pub struct BadPosition;
 /// The present text.
 #[derive(Drop)]
 pub struct TextStore {
-    text: String,
+    text: GapBytes,
     // the places behind the line feeds, in order
     starts: Vec<u32>,
     alloc: Global,
@@ -30,15 +31,15 @@ pub struct TextStore {
 
 impl Model for TextStore {
     ghost use Rattle.std.specs.Prelude.{ℕ, List, length, ◌≤◌};
-    ghost use Rattle.std.specs.String.{string_bytes};
+    ghost use Rattle.std.specs.Str.{IsUtf8};
     ghost use Rattle.text_model.specs.Edits.{text_limit};
     ghost use Rattle.text_store.specs.Starts.{HasStarts};
 
     ghost Value = { List ℕ };
 
-    ghost view = { λ s. string_bytes s.text };
+    ghost view = { λ s. s.text.items };
 
-    ghost invariant = { λ s. (length (string_bytes s.text) ≤ text_limit) × HasStarts (string_bytes s.text) s.starts.items };
+    ghost invariant = { λ s. (length s.text.items ≤ text_limit) × HasStarts s.text.items s.starts.items × IsUtf8 s.text.items };
 }
 
 impl TextStore {
@@ -47,7 +48,7 @@ impl TextStore {
         ensures { result ≡ [] }
     {
         TextStore {
-            text: String::new(alloc),
+            text: GapBytes::new(alloc),
             starts: Vec::new(alloc),
             alloc,
         }
@@ -55,33 +56,25 @@ impl TextStore {
 
     /// Makes an edit, and answers the offset of its start, which is the first changed byte.
     /// A refusal is the first that applies, in the order of `TextRefusal`, of an end's start before its end.
-    /// The text stays at each refusal and at want of memory. It takes time for the edit's text and
-    /// for the bytes and lines that are cut and those behind them.
+    /// The text stays at each refusal and at want of memory. It takes time for the edit's text, for the bytes
+    /// between it and the last edit, and for the lines that are cut and those behind them.
     pub fn apply(&mut self, edit: &Edit) -> Result<u32, TextRefusal>
         ensures done { IfOk result (λ first. outcome_of self.old (edit_of edit.now) ≡ changed first self.new) }
         ensures refused { IfErr result (λ refusal. (self.new ≡ self.old) × IsRefusal (outcome_of self.old (edit_of edit.now)) refusal) }
     {
-        let text = self.text.as_bytes();
-        let (start, end) = places_of(text, self.starts.as_slice(), edit)?;
-        let piece = edit.text.as_str();
-        if self.text.reserve(piece.len()).is_err() {
-            return Err(TextRefusal::NoMemory);
-        }
-        let text = self.text.as_bytes();
-        if change_starts(
+        let (start, end) = places_of(&self.text, self.starts.as_slice(), edit)?;
+        let piece = edit.text.as_str().as_bytes();
+        match change(
             self.alloc,
+            &mut self.text,
             &mut self.starts,
-            text,
             start,
             end,
-            piece.as_bytes(),
-        )
-        .is_err()
-        {
-            return Err(TextRefusal::NoMemory);
+            piece,
+        ) {
+            Ok(()) => Ok(start),
+            Err(_) => Err(TextRefusal::NoMemory),
         }
-        replace_bytes(&mut self.text, start as usize, end as usize, piece);
-        Ok(start)
     }
 
     /// The offset of a position, in bytes from 0. It takes no memory and the same time for each text.
@@ -90,7 +83,7 @@ impl TextStore {
         ensures within { IfOk result (λ n. n ≤ length self.now) }
         ensures back { IfOk result (λ n. position_of self.now n ≡ (at.line, at.col)) }
     {
-        find_offset(self.text.as_bytes(), self.starts.as_slice(), at).ok_or(BadPosition)
+        find_offset(&self.text, self.starts.as_slice(), at).ok_or(BadPosition)
     }
 
     /// The position of an offset in bytes. It takes no memory, and time for the logarithm of the number of lines.
@@ -99,7 +92,7 @@ impl TextStore {
         ensures value { (result.line, result.col) ≡ position_of self.now place }
         ensures back { offset self.now result.line result.col ≡ Some place }
     {
-        find_position(self.text.as_bytes(), self.starts.as_slice(), place)
+        find_position(&self.text, self.starts.as_slice(), place)
     }
 
     /// How many lines the text has: one more than its line feeds.
@@ -113,7 +106,7 @@ impl TextStore {
     pub fn len(&self) -> u32
         ensures { result ≡ length self.now }
     {
-        self.text.len() as u32
+        self.text.len()
     }
 
     /// The text in two parts, the second of which may be empty.
@@ -122,18 +115,32 @@ impl TextStore {
         ensures utf8 { IsUtf8 self.now }
         ensures short { length self.now ≤ text_limit }
     {
-        (self.text.as_bytes(), &[])
+        self.text.slices()
     }
 }
 
-// Puts a piece in place of a text's bytes from `start` up to `end`, in the room that it has.
-fn replace_bytes(text: &mut String, start: usize, end: usize, piece: &str)
-    requires room { string_len text.old + length piece.now ≤ string_capacity text.old }
-    requires order { start ≤ end }
-    requires within { end ≤ string_len text.old }
-    requires start_whole { is_inside_char (string_bytes text.old) start ≡ false }
-    requires end_whole { is_inside_char (string_bytes text.old) end ≡ false }
-    ensures { string_bytes text.new ≡ apply (string_bytes text.old) start end piece.now }
+// Makes an edit of a text and of its starts. All growth comes first: at want of memory both stay.
+#[tactic(auto, using(crate::proofs::Wholes::apply_utf8))]
+fn change(
+    alloc: Global,
+    text: &mut GapBytes,
+    starts: &mut Vec<u32>,
+    start: u32,
+    end: u32,
+    piece: &[u8],
+) -> Result<(), NoMemory>
+    requires starts { HasStarts text.old.items starts.old.items }
+    requires utf8 { IsUtf8 text.old.items × IsUtf8 piece.now }
+    requires short { (length text.old.items ≤ text_limit) × (length (apply text.old.items start end piece.now) ≤ text_limit) }
+    requires order { (start ≤ end) × (end ≤ length text.old.items) }
+    requires whole { (is_inside_char text.old.items start ≡ false) × (is_inside_char text.old.items end ≡ false) }
+    ensures done { OnOk result (text.new.items ≡ apply text.old.items start end piece.now) }
+    ensures utf8 { IsUtf8 text.new.items }
+    ensures starts { HasStarts text.new.items starts.new.items }
+    ensures failed { OnErr result (text.new.items ≡ text.old.items) }
 {
-    let _ = text.replace_range(start..end, piece);
+    text.reserve(piece.len() as u32)?;
+    change_starts(alloc, starts, text, start, end, piece)?;
+    let _ = text.replace(start, end - start, piece);
+    Ok(())
 }

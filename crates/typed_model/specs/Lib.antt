@@ -1,3 +1,3 @@
--- Environments with values in front of another, and the types of the nodes of a text.
+-- Environments with values and exceptions in front of another, and the types of the nodes of a text.
 pub mod Over
 pub mod Shown

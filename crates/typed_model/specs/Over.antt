@@ -1,15 +1,20 @@
--- Environments that have values alone in front of another: among such names a type has the same paths.
+-- Environments that have values and exceptions alone in front of another: among such names a type has the same paths.
 use Rattle.std.specs.Prelude.{◌≡◌, [], ◌∷◌, ◌++◌}
-use Rattle.type_model.specs.Schemes.{Scheme}
-use Rattle.signature_model.specs.Entries.{a_value, Environment}
+use Rattle.signature_model.specs.Entries.{Referent, a_value, an_exception, Environment}
 
--- each of these names stands for a value
-abbrev pub AreValues : Environment → Type 0
-AreValues [] = Unit {0}
-AreValues (e ∷ es) = ((s : Scheme) × (e.stands_for ≡ a_value s)) × AreValues es
+-- what a name stands for is a value or an exception
+abbrev pub IsNoType : Referent → Type 0
+IsNoType (a_value s) = Unit {0}
+IsNoType (an_exception o) = Unit {0}
+IsNoType _ = ⊥
 
--- an environment is another with values in front
+-- each of these names stands for a value or an exception
+abbrev pub AreNoTypes : Environment → Type 0
+AreNoTypes [] = Unit {0}
+AreNoTypes (e ∷ es) = IsNoType e.stands_for × AreNoTypes es
+
+-- an environment is another with such names in front
 pub record IsOver (env E : Environment) : Type 0 where
-  pub values : Environment
-  pub are_values : AreValues values
-  pub is : E ≡ values ++ env
+  pub front : Environment
+  pub are_no_types : AreNoTypes front
+  pub is : E ≡ front ++ env

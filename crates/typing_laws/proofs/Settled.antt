@@ -1,13 +1,13 @@
--- In a text of `let` and `;;` what is asked up to a demand depends only on what is kept before it.
+-- In a text of `let`, exceptions and `;;` what is asked up to a demand depends only on what is kept before it.
 use Rattle.std.proofs.Common.{◌≡◌, Bool, true, false, ◌==◌, List, [], ◌∷◌, refl, sym, ap}
 use Rattle.type_model.proofs.Applying.{or_left, or_right, eqb_same}
 use Rattle.tree_model.specs.Trees.{Tree, node}
-use Rattle.tree_model.specs.Rows.{Row, let_row, break_row}
+use Rattle.tree_model.specs.Rows.{Row, let_row, exception_row, break_row}
 use Rattle.signature_model.specs.Entries.{Environment}
 use Rattle.typing_model.specs.Demands.{Site, same_site, Condition, same, instance, made, known, demand, treated, sites_of}
 use Rattle.typing_model.specs.Contexts.{Choice}
 use Rattle.typing_model.specs.Typings.{conditions_of, is_site_among, sites_before, conditions_up_to}
-use Rattle.typing_model.specs.Plain.{is_plain_row, has_no_modules, is_let_row, has_lets_alone}
+use Rattle.typing_model.specs.Plain.{is_plain_row, has_no_modules, is_let_row, has_lets_alone, is_value_row, has_values_alone}
 use Rattle.typing_laws.proofs.Bools.{no_yes, and_cases, and_both}
 use Rattle.typing_laws.proofs.Together.{Kept}
 use Rattle.typing_laws.proofs.Whole.{Whole, at_end, at_demand, at_same, at_instance, at_made, at_known, at_treated}
@@ -34,16 +34,34 @@ up_to_one {k} {m} s (at_demand {s = t} {p = p} {d = d} {cs = cs} {ds = ds} g) be
         rw (h, conditions_up_to) (ap (λ xs. demand t p d ∷ xs) rest)
 
 -- so it is in such a text
+pub values_settled : (env : Environment) (text : List Tree) (kept others : Site → Bool) (choice : Choice) (s : Site) → has_values_alone text ≡ true →
+    ((x : Site) → is_site_among x (sites_before s (sites_of (conditions_of env text kept choice))) ≡ true → others x ≡ kept x) → conditions_up_to s (conditions_of env text others choice) ≡ conditions_up_to s (conditions_of env text kept choice)
+values_settled env text kept others choice s values before = up_to_one s (text_whole {k = kept} {m = others} env text choice values) before
+
+-- a text of `let` and `;;` is one of `let`, exceptions and `;;`
+row_value : (r : Row) → is_let_row r ≡ true → is_value_row r ≡ true
+row_value let_row e = refl
+row_value break_row e = refl
+row_value _ e = absurd (no_yes e)
+
+pub lets_values : (text : List Tree) → has_lets_alone text ≡ true → has_values_alone text ≡ true
+lets_values [] e = refl
+lets_values (node r x ps ∷ ts) e = let (first, others) = and_cases (is_let_row r) (has_lets_alone ts) e in and_both (is_value_row r) (has_values_alone ts) (row_value r first) (lets_values ts others)
+
 pub lets_settled : (env : Environment) (text : List Tree) (kept others : Site → Bool) (choice : Choice) (s : Site) → has_lets_alone text ≡ true →
     ((x : Site) → is_site_among x (sites_before s (sites_of (conditions_of env text kept choice))) ≡ true → others x ≡ kept x) → conditions_up_to s (conditions_of env text others choice) ≡ conditions_up_to s (conditions_of env text kept choice)
-lets_settled env text kept others choice s lets before = up_to_one s (text_whole {k = kept} {m = others} env text choice lets) before
+lets_settled env text kept others choice s lets before = values_settled env text kept others choice s (lets_values text lets) before
 
--- `let` and `;;` are no modules
-row_plain : (r : Row) → is_let_row r ≡ true → is_plain_row r ≡ true
+-- `let`, exceptions and `;;` are no modules
+row_plain : (r : Row) → is_value_row r ≡ true → is_plain_row r ≡ true
 row_plain let_row e = refl
+row_plain exception_row e = refl
 row_plain break_row e = refl
 row_plain _ e = absurd (no_yes e)
 
+pub values_plain : (text : List Tree) → has_values_alone text ≡ true → has_no_modules text ≡ true
+values_plain [] e = refl
+values_plain (node r x ps ∷ ts) e = let (first, others) = and_cases (is_value_row r) (has_values_alone ts) e in and_both (is_plain_row r) (has_no_modules ts) (row_plain r first) (values_plain ts others)
+
 pub lets_plain : (text : List Tree) → has_lets_alone text ≡ true → has_no_modules text ≡ true
-lets_plain [] e = refl
-lets_plain (node r x ps ∷ ts) e = let (first, others) = and_cases (is_let_row r) (has_lets_alone ts) e in and_both (is_plain_row r) (has_no_modules ts) (row_plain r first) (lets_plain ts others)
+lets_plain text e = values_plain text (lets_values text e)

@@ -88,6 +88,7 @@ pub record SteadyFieldPattern (k m : Kept) (f : FieldPattern) : Type 0 where
 
 pub record SteadyConstructor (k m : Kept) (a : ConstructorPart) : Type 0 where
   pub argument : IfThere (SteadyType k m) a.argument
+  pub whole_argument : IfThere (WholeType k m) a.argument
 
 pub record SteadyLabel (k m : Kept) (l : LabelPart) : Type 0 where
   pub body : SteadyType k m l.body

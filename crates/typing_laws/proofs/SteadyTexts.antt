@@ -102,7 +102,7 @@ field_pattern_steady qfield_row n cs h = there (record { pattern = first_there (
 field_pattern_steady _ n cs h = absent
 
 constructor_steady : {k m : Kept} (r : Row) (n : ℕ) (cs : List Child) → Each (SteadyChild k m) cs → IfThere (SteadyConstructor k m) (constructor_of r n cs)
-constructor_steady con_row n cs h = there (record { argument = first_there (types_in 2 cs) (types_steady 2 cs h) })
+constructor_steady con_row n cs h = there (record { argument = first_there (types_in 2 cs) (types_steady 2 cs h); whole_argument = first_there (types_in 2 cs) (types_whole 2 cs h) })
 constructor_steady _ n cs h = absent
 
 label_steady : {k m : Kept} (r : Row) (n : ℕ) (cs : List Child) → Each (SteadyChild k m) cs → IfThere (SteadyLabel k m) (label_of r n cs)

@@ -34,3 +34,19 @@ is_let_item (node r x ps) = is_let_row r
 abbrev pub has_lets_alone : List Tree → Bool
 has_lets_alone [] = true
 has_lets_alone (t ∷ ts) = is_let_item t && has_lets_alone ts
+
+-- whether an item of this row is a binding, an exception or `;;`
+abbrev pub is_value_row : Row → Bool
+is_value_row let_row = true
+is_value_row exception_row = true
+is_value_row break_row = true
+is_value_row _ = false
+
+-- whether an item is one of these
+abbrev pub is_value_item : Tree → Bool
+is_value_item (node r x ps) = is_value_row r
+
+-- whether all items of a text are
+abbrev pub has_values_alone : List Tree → Bool
+has_values_alone [] = true
+has_values_alone (t ∷ ts) = is_value_item t && has_values_alone ts

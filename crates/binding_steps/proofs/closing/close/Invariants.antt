@@ -1,4 +1,5 @@
-use Rattle.std.proofs.Common.{◌≡◌, map, drop}
+use Rattle.std.proofs.Common.{◌≡◌, ◌++◌, map, drop}
+use Rattle.env_table.specs.Views.{newest_first}
 use Rattle.typing_state.specs.Goes.{Goes, Silent}
 use Rattle.binding_rows.specs.CaseScopes.{names_added}
 use Rattle.binding_rows.specs.Lets.{names_closed}
@@ -12,4 +13,5 @@ invariant-loop-one l = record {
   silent : Silent l.fn.at l.at;
   closes : ClosesFirst l.fn.at l.at l.env l.behind (map closing_of l.bound) (map closing_of (drop l.one-index l.bound));
   names : names_added (names_closed (map closing_of (drop l.one-index l.bound))) l.behind ≡ names_added (names_closed (map closing_of l.bound)) l.env;
+  grows : l.behind ≡ newest_first l.entries.items ++ l.env;
 }

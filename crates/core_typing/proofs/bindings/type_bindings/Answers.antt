@@ -47,3 +47,6 @@ pub returns-clause-goes : goal.returns-clause-goes
 returns-clause-goes c =
     let limited = goes_trans c.args.at.now c.type_group.new.at c.limit_names.new.at (goes_trans c.args.at.now c.raise.new.at c.type_group.new.at c.raise.ensures.goes c.type_group.ensures.goes) c.limit_names.ensures.goes in
     goes_trans c.args.at.now c.limit_names.new.at c.close.new.at limited c.close.ensures.goes
+
+pub returns-clause-grows : goal.returns-clause-grows
+returns-clause-grows c = c.close.ensures.grows

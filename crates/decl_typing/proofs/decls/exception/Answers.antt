@@ -4,7 +4,7 @@ use Rattle.std.proofs.Common.{◌∙◌, None, option_map, refl, sym, ap}
 use Rattle.token_model.specs.Kinds.{Tok}
 use Rattle.syntax_tree.specs.View.{node_view, tok_of}
 use Rattle.typing_rows.proofs.DeclaredOrdered.{index_reports}
-use Rattle.decl_typing.proofs.Entering.{exception_closes}
+use Rattle.decl_typing.proofs.Entering.{exception_closes, scope_after}
 use Rattle.decl_typing.proofs.Settling.{exception_settles}
 use Rattle.decl_typing.proofs.decls.exception.Goals as goal
 
@@ -44,6 +44,7 @@ returns-clause-means c = record {
   entry = c.in_ok-entry.ensures;
   named = sym (ap (option_map (λ (k : Tok). k.name)) (sym (ap (option_map (λ t. tok_of t.now)) c.in-Some.is) ∙ c.token.ensures));
   closes = exception_closes c.args.at.now c.exception_type.new.at c.note.new.self c.args.env.now c.args.number (node_view c.args.node.now) c.args.at.now.constants.exn.0 c.in_ok-root.root.0 c.note.ensures.rest c.note.ensures.goes c.in_ok-root.ensures.means;
+  scoped = scope_after c.args.at.now c.exception_type.new.at c.note.new.self c.args.number (record { env = c.args.env.now; ty = None; names = c.in_ok-names.names }) c.exception_type.ensures.goes c.in_ok-note.ensures.noted;
 }
 
 pub returns-in_default-clause-means : goal.returns-in_default-clause-means

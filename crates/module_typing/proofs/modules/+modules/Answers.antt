@@ -5,7 +5,7 @@ use Rattle.syntax_tree.specs.declared.tree.Node.{out-Node}
 use Rattle.typing_state.proofs.Going.{goes_refl, goes_trans}
 use Rattle.signature_typing.proofs.NodeRows.{not_of}
 use Rattle.signature_typing.proofs.SpecificationSteps.{missing_specified, exception_specified, other_specification}
-use Rattle.module_typing.proofs.ItemSteps.{missing_given, break_given, let_item_given, exception_given, other_item, other_names, items_start, items_next, items_end}
+use Rattle.module_typing.proofs.ItemSteps.{missing_given, break_given, let_item_given, exception_given, other_item, other_names, none_grows, other_grows, on_any, items_start, items_next, items_end}
 use Rattle.module_typing.proofs.modules.+modules.Goals as goal
 
 pub type_item-returns-in_default-clause-carries : goal.type_item-returns-in_default-clause-carries
@@ -76,10 +76,35 @@ type_item-returns-in-Include-clause-specifies t c =
     other_specification c.include_item.result c.args.at.now c.include_item.new.at c.args.scene.now c.include_item.new.scene c.args.item c.in-Some.node c.in-Some.is
     (not_of row name.Include name.Val c.in-Include.is (λ e. absurd (cc))) (not_of row name.Include name.Exception c.in-Include.is (λ e. absurd (cc))) (not_of row name.Include name.TypeRow c.in-Include.is (λ e. absurd (cc))) (not_of row name.Include name.Gmodule c.in-Include.is (λ e. absurd (cc)))
 
+pub type_item-returns-in_default-clause-grows : goal.type_item-returns-in_default-clause-grows
+type_item-returns-in_default-clause-grows t c = λ keeps. on_any c.note_plain.result (none_grows c.args.scene.now)
+
+pub type_item-returns-in-Let-clause-grows : goal.type_item-returns-in-Let-clause-grows
+type_item-returns-in-Let-clause-grows t c = λ keeps. c.let_item.ensures.grows
+
+pub type_item-returns-in-Break-clause-grows : goal.type_item-returns-in-Break-clause-grows
+type_item-returns-in-Break-clause-grows t c = λ keeps. on_any c.note_plain-in-Break.result (none_grows c.args.scene.now)
+
+pub type_item-returns-in-Exception-clause-grows : goal.type_item-returns-in-Exception-clause-grows
+type_item-returns-in-Exception-clause-grows t c =
+    let row = (out-Node c.in-Some.node.now).row in
+    other_grows c.args.item c.in-Some.node c.in-Some.is (not_of row name.Exception name.Let c.in-Exception.is (λ e. absurd (cc))) (not_of row name.Exception name.Break c.in-Exception.is (λ e. absurd (cc)))
+
+pub type_item-returns-in-Module-clause-grows : goal.type_item-returns-in-Module-clause-grows
+type_item-returns-in-Module-clause-grows t c =
+    let row = (out-Node c.in-Some.node.now).row in
+    other_grows c.args.item c.in-Some.node c.in-Some.is (not_of row name.Module name.Let c.in-Module.is (λ e. absurd (cc))) (not_of row name.Module name.Break c.in-Module.is (λ e. absurd (cc)))
+
+pub type_item-returns-in-Include-clause-grows : goal.type_item-returns-in-Include-clause-grows
+type_item-returns-in-Include-clause-grows t c =
+    let row = (out-Node c.in-Some.node.now).row in
+    other_grows c.args.item c.in-Some.node c.in-Some.is (not_of row name.Include name.Let c.in-Include.is (λ e. absurd (cc))) (not_of row name.Include name.Break c.in-Include.is (λ e. absurd (cc)))
+
 pub type_item-returns-in_default-row : goal.type_item-returns-in_default-row
 type_item-returns-in_default-row t c = record {
   carries = other_item c.type_specification.result c.args.at.now c.type_specification.new.at c.args.scene.now c.type_specification.new.scene c.args.item c.in-Some.node c.in-Some.is c.in_default-row.not-Let c.in_default-row.not-Break c.in_default-row.not-Exception;
   names = other_names c.args.scene.now c.type_specification.new.scene c.args.item c.in-Some.node c.in-Some.is c.in_default-row.not-Let c.in_default-row.not-Break c.in_default-row.not-Exception;
+  grows = other_grows c.args.item c.in-Some.node c.in-Some.is c.in_default-row.not-Let c.in_default-row.not-Break;
   specifies = c.type_specification.ensures.carries;
   goes = c.type_specification.ensures.goes;
 }

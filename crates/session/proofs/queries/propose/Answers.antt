@@ -8,7 +8,7 @@ use Rattle.service_model.specs.Completions.{CompletedBy}
 use Rattle.syntax_tree.specs.View.{trees_of}
 use Rattle.syntax_tree.specs.declared.tree.Tree.{Tree}
 use Rattle.json_lines.specs.Means.{said_of}
-use Rattle.session.specs.Changes.{IsSaidOf}
+use Rattle.text_changes.specs.Changes.{IsSaidOf}
 use Rattle.session.specs.Queries.{AnswersQuery, ProposesAt}
 use Rattle.session.specs.Working.{tries_texts}
 use Rattle.session.specs.declared.queries.Query.{Query}

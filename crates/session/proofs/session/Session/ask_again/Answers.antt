@@ -2,9 +2,9 @@ use Rattle.std.proofs.Common.{[], subst, sym, refl}
 use Rattle.syntax_tree.specs.Tallies.{Tallies}
 use Rattle.asked_node.specs.Trials.{AreReplaced}
 use Rattle.json_lines.specs.Means.{said_of}
-use Rattle.session.specs.Changes.{changes_in, AreSaidOf, FitsText, IsSaidOf}
+use Rattle.text_changes.specs.Changes.{changes_in, AreSaidOf, FitsText, IsSaidOf}
 use Rattle.session.specs.Queries.{IsAnswered}
-use Rattle.session.specs.declared.changes.Proposal.{Proposal}
+use Rattle.text_changes.specs.declared.changes.Proposal.{Proposal}
 use Rattle.session.specs.Working.{TriesTexts}
 use Rattle.session.proofs.Proposing.{tries_none}
 use Rattle.session.proofs.Typing.{said_then}

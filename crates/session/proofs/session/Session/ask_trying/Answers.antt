@@ -1,8 +1,8 @@
 use Rattle.std.proofs.Common.{◌∙◌, subst, sym, refl, List, ℕ, IfOk}
 use Rattle.json_lines.specs.Means.{said_of}
-use Rattle.session.specs.Changes.{AreSaidOf, FitsText, IsSaidOf}
+use Rattle.text_changes.specs.Changes.{AreSaidOf, FitsText, IsSaidOf}
 use Rattle.session.specs.Queries.{IsAnswered}
-use Rattle.session.specs.declared.changes.Proposal.{Proposal}
+use Rattle.text_changes.specs.declared.changes.Proposal.{Proposal}
 use Rattle.session.proofs.Proposing.{never_tried}
 use Rattle.session.proofs.Typing.{said_then}
 use Rattle.session.proofs.session.Session.ask_trying.Goals as goal

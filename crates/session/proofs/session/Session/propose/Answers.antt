@@ -8,11 +8,11 @@ use Rattle.text_queries.specs.Faults.{typer_fault_of}
 use Rattle.text_reading.specs.Structures.{IsParsedAs}
 use Rattle.text_reading.specs.Types.{items_in, IsOf}
 use Rattle.text_reading.proofs.Knowing.{items_parsed}
-use Rattle.session.specs.Changes.{FitsText, IsSaidOf}
+use Rattle.text_changes.specs.Changes.{FitsText, IsSaidOf}
 use Rattle.session.specs.Queries.{AnswersQuery}
 use Rattle.session.specs.Working.{Held}
 use Rattle.session.proofs.Proposing.{items_answer, may_try}
-use Rattle.session.proofs.Typing.{typer_found}
+use Rattle.text_changes.proofs.Typed.{typer_found}
 use Rattle.session.proofs.session.Session.propose.Goals as goal
 
 pub typed-requires : goal.typed-requires

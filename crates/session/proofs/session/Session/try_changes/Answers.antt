@@ -5,7 +5,7 @@ use Rattle.asked_node.specs.Trials.{AreReplaced}
 use Rattle.text_reading.specs.Types.{held, known, known_front}
 use Rattle.text_reading.proofs.Fronts.{front_of_none}
 use Rattle.text_reading.proofs.Knowing.{unknown}
-use Rattle.session.specs.Changes.{candidates_in, AreSaidOf}
+use Rattle.text_changes.specs.Changes.{candidates_in, AreSaidOf}
 use Rattle.session.specs.Working.{Held}
 use Rattle.session.proofs.session.Session.try_changes.Goals as goal
 

@@ -1,7 +1,7 @@
 use Rattle.std.proofs.Common.{◌∙◌, ap, subst, sym}
 use Rattle.tree_model.specs.Trees.{Tree}
 use Rattle.std.specs.Prelude.{List}
-use Rattle.fault_model.specs.Refused.{AreOfLets}
+use Rattle.fault_model.specs.Refused.{AreOfValues}
 use Rattle.service_model.specs.Answers.{TypesAre}
 use Rattle.syntax_tree.specs.View.{trees_of}
 use Rattle.analysis_api.specs.Types.{AreTyped}
@@ -20,5 +20,5 @@ returns-clause-said g c =
     said_then (AreTypesBy text c.args.offset a) (TypesAre text c.args.offset (trees_of c.args.tree.now)) c.types_of.result
     (λ s by. subst (λ (us : List Tree). TypesAre text c.args.offset us s) tree
     (types_known text c.args.offset a x s (subst (AreItemsOf text) (sym tree) c.requires.of_text) (record { index = c.asked.ensures.index; store = c.asked.ensures.store })
-    (subst (λ (us : List Tree). AreOfLets us → ∥ AreTyped us x ∥₁) items c.analysis.ensures.typed) by))
+    (subst (λ (us : List Tree). AreOfValues us → ∥ AreTyped us x ∥₁) items c.analysis.ensures.typed) by))
     c.types_of.ensures

@@ -1,7 +1,6 @@
 use Rattle.std.proofs.Common.{subst}
 use Rattle.std.specs.Str.{IsUtf8}
-use Rattle.std.proofs.lemmas.Str.{IsUtf8-string_bytes}
 use Rattle.text_store.proofs.store.TextStore.slices.Goals as goal
 
 pub returns-clause-utf8 : goal.returns-clause-utf8
-returns-clause-utf8 c = subst IsUtf8 c.self.view_is (IsUtf8-string_bytes c.self.inside.text)
+returns-clause-utf8 c = subst IsUtf8 c.self.view_is c.self.invariant.2

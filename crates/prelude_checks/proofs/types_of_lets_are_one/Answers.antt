@@ -1,6 +1,0 @@
-use Rattle.shown_alike.proofs.Shown.{two_shown_alike}
-use Rattle.prelude_checks.proofs.Ones.{firsts_one}
-use Rattle.prelude_checks.proofs.types_of_lets_are_one.Goals as goal
-
-pub returns : goal.returns
-returns c = λ items nodes texts others lets a b. two_shown_alike items nodes texts others lets a b (firsts_one a.typing.env b.typing.env a.typing.first b.typing.first)

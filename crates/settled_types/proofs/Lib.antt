@@ -1,0 +1,12 @@
+pub mod Erasing
+pub mod Found
+pub mod One
+pub mod Goes
+pub mod Uses
+pub mod Types
+pub mod Patterns
+pub mod Bindings
+pub mod Expressions
+pub mod Rows
+pub mod Texts
+pub mod Settled

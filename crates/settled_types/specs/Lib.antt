@@ -1,0 +1,2 @@
+-- Types that are made of some constructors alone.
+pub mod Made

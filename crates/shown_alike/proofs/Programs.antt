@@ -1,0 +1,42 @@
+-- In a program that the parser gives, each typed node is told with its type, so of each one text is shown.
+use Rattle.std.proofs.Common.{◌≡◌, ℕ, zero, suc, true, List, [], ◌∷◌, reverse, Some, refl, subst}
+use Rattle.std.specs.Prelude.{All, slice_get}
+use Rattle.std.proofs.lemmas.Option.{slice_get_within, get_or_from_slice_get}
+use Rattle.std.proofs.lemmas.List.Elements.{All-nil, All-cons, All-get_or}
+use Rattle.std.proofs.lemmas.List.Sorted.{All-permutation, IsPermutation-reverse}
+use Rattle.token_model.specs.Kinds.{Tok}
+use Rattle.query_model.specs.TypedNodes.{Typed, typed_at}
+use Rattle.typing_model.specs.First.{program_items}
+use Rattle.typing_model.specs.Plain.{has_values_alone}
+use Rattle.typed_model.specs.Shown.{number_of, IsTypingOf, AreShown}
+use Rattle.typing_laws.proofs.Settled.{values_plain}
+use Rattle.scope_laws.proofs.TypedNodes.{plain_nodes_are_typed}
+use Rattle.shown_alike.specs.Told.{HasNone, type_at, IsTold}
+use Rattle.shown_alike.proofs.Shown.{two_shown_alike}
+
+-- the typed nodes of a program that hold an offset, from the last in preorder to the first, as they are shown
+abbrev pub round : ℕ → List Tok → List Typed
+round o tokens = reverse (typed_at o (program_items tokens))
+
+-- what is so of each that a list has at some place is so of all
+all_of : {A : Type 0} (P : A → Type 0) (xs : List A) → ((k : ℕ) (x : A) → slice_get xs k ≡ Some x → P x) → All P xs
+all_of P [] h = All-nil P
+all_of P (x ∷ xs) h = All-cons P x xs (h 0 x refl) (all_of P xs (λ k. h (suc k)))
+
+-- each of them is told with its type
+told_at : (tokens : List Tok) → has_values_alone (program_items tokens) ≡ true → (a : IsTypingOf (program_items tokens)) (o k : ℕ) (n : Typed) → slice_get (typed_at o (program_items tokens)) k ≡ Some n → IsTold a n
+told_at tokens values a o k n here =
+    let (names, told) = plain_nodes_are_typed a.env tokens a.kept a.choice (values_plain (program_items tokens) values) o k n here in
+    record { names = names; told = told }
+
+pub told_round : (tokens : List Tok) → has_values_alone (program_items tokens) ≡ true → (a : IsTypingOf (program_items tokens)) (o k : ℕ) (n : Typed) → slice_get (round o tokens) k ≡ Some n → IsTold a n
+told_round tokens values a o k n here =
+    let all : All (IsTold a) (round o tokens) =
+    All-permutation (IsTold a) (typed_at o (program_items tokens)) (round o tokens) (IsPermutation-reverse (typed_at o (program_items tokens))) (all_of (IsTold a) (typed_at o (program_items tokens)) (told_at tokens values a o)) in
+    subst (IsTold a) (get_or_from_slice_get (round o tokens) k n n here) (All-get_or (IsTold a) (round o tokens) k n (slice_get_within (round o tokens) k n here) all)
+
+-- Two ways in which the typed nodes of such a program that hold an offset are shown are one, where no variable of the node's type is weak in either.
+pub programs_shown_alike : (tokens : List Tok) (o : ℕ) (texts others : List (List ℕ)) → has_values_alone (program_items tokens) ≡ true → (a : AreShown (program_items tokens) (round o tokens) texts) (b : AreShown (program_items tokens) (round o tokens) others) →
+    a.typing.env ≡ b.typing.env → (k : ℕ) (n : Typed) (shown other : List ℕ) → slice_get (round o tokens) k ≡ Some n → slice_get texts k ≡ Some shown → slice_get others k ≡ Some other → HasNone a.weak (type_at a.typing n) → HasNone b.weak (type_at b.typing n) → shown ≡ other
+programs_shown_alike tokens o texts others values a b same k n shown other here one two first second =
+    two_shown_alike (program_items tokens) (round o tokens) texts others values a b same k n shown other here one two (told_round tokens values a.typing o k n here) (told_round tokens values b.typing o k n here) first second

@@ -1,0 +1,4 @@
+pub mod Splitting
+pub mod Terms
+pub mod Trying
+pub mod Typed
