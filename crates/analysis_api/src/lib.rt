@@ -2,7 +2,7 @@
 //! It keeps nothing itself, and knows nothing of how types are found: the typer is one `Analyser`, and a session takes any.
 //! It is built on the tables that an analysis fills: the nodes of types, environments, and the records of a tree's nodes.
 //! The layer above may use the fields of an `Analysis`, and an `Analyser`: `refresh` says which trees it holds, and that each item
-//! is counted as typed but for those at the front that are as they were, and no others; `found` that items which can be typed have no faults, and which faults and which types items of `let` have.
+//! is counted as typed but for those at the front that are as they were, and no others; `found` that items which can be typed have no faults, and which faults and which types items of `let` have, and which of their variables are weak.
 #![tactic(auto)]
 
 ghost use Rattle.std.specs.Prelude.{◌≡◌, ℕ, List, [], ◌+◌, ◌-◌, ◌≤◌, length, map, true, IfOk, OnOk, OnErr};
@@ -15,7 +15,7 @@ ghost use Rattle.syntax_tree.specs.View.{trees_of};
 ghost use Rattle.analysis_api.specs.Typed.{more_typed, GoesOn, LongestFront, SameFront};
 ghost use Rattle.analysis_api.specs.Faults.{typer_fault_of};
 ghost use Rattle.analysis_api.specs.Warnings.{are_warnings};
-ghost use Rattle.analysis_api.specs.Types.{AreTyped};
+ghost use Rattle.analysis_api.specs.Types.{AreTyped, AreSettled};
 
 use env_table::{Env, Faults, Seen};
 use std::alloc::Global;
@@ -50,6 +50,9 @@ pub trait Analyser: Drop {
     /// Whether an analysis is what it found of these items.
     ghost finds: { Self → Analysis → Type 0 };
 
+    /// That its weak variables are those of the items that it holds.
+    ghost is_settled: { Self → Type 0 };
+
     /// The bytes of the prelude.
     ghost opens: { List ℕ };
 
@@ -72,6 +75,7 @@ pub trait Analyser: Drop {
     ) -> Result<(), NoMemory>
         requires front { SameFront (items self.old) (trees_of tree.now) front }
         ensures items { OnOk result (items self.new ≡ trees_of tree.now) }
+        ensures settled { OnOk result (is_settled self.new) }
         ensures typed { OnOk result ((n : ℕ) × LongestFront (items self.old) (trees_of tree.now) n × ((C.tallies counts.new).typed ≡ more_typed (length tree.now.items.items - n) (C.tallies counts.old).typed)) }
         ensures failed { OnErr result (GoesOn (items self.old) (trees_of tree.now) (items self.new) (C.tallies counts.old).typed (C.tallies counts.new).typed) }
         ensures unlexed { (C.tallies counts.new).lexed ≡ (C.tallies counts.old).lexed }
@@ -80,12 +84,14 @@ pub trait Analyser: Drop {
 
     /// What is found of the items that it holds, after a `refresh` that succeeded. Of items that can be typed, which are `let` and `;;` alone,
     /// these are warnings and no faults; and of items that are `let` and `;;` the faults are those of the demands that aren't kept, in order,
-    /// and what is recorded for expressions and patterns are the types of a principal typing.
+    /// and what is recorded for expressions and patterns are the types of a principal typing; after a `refresh` that succeeded the weak variables are
+    /// those of this typing.
     fn found(&self) -> Analysis<'_>
         ensures found { finds self.now result }
         ensures silent { AreTypable (items self.now) → are_warnings result.faults.now.list.items ≡ true }
         ensures refused { AreOfValues (items self.now) → ∥ AreRefused (items self.now) (standing (map typer_fault_of result.faults.now.list.items)) ∥₁ }
-        ensures typed { AreOfValues (items self.now) → ∥ AreTyped (items self.now) result ∥₁ };
+        ensures typed { AreOfValues (items self.now) → ∥ AreTyped (items self.now) result ∥₁ }
+        ensures settled { is_settled self.now → AreOfValues (items self.now) → ∥ AreSettled (items self.now) result ∥₁ };
 
     /// The text of the prelude, whose names every text has at hand; its lines are counted from 1.
     fn prelude() -> &'static str

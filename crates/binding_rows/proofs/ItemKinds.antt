@@ -1,5 +1,5 @@
 -- The items that are carried, by the operands of a structure.
-use Rattle.std.proofs.Common.{◌≡◌, ◌∙◌, ℕ, ◌+◌, true, List, [], ◌∷◌, map, Option, Some, None, option_map, refl, sym, ap, subst, append-nil}
+use Rattle.std.proofs.Common.{◌≡◌, ◌∙◌, ℕ, ◌+◌, true, List, [], ◌∷◌, map, Option, Some, None, refl, sym, ap, subst, append-nil}
 use Rattle.tree_model.specs.Rows.{exception_row, break_row, con_row}
 use Rattle.tree_model.specs.Slots.{is_operand}
 use Rattle.tree_model.specs.Trees.{Tree, Place, node, inner, part_yield, yield_of}
@@ -15,19 +15,18 @@ use Rattle.typing_model.specs.Meanings.{constructor_of, recorded_item, children_
 use Rattle.row_parts.specs.Numbered.{numbered, operands_in, first_of}
 use Rattle.env_table.specs.declared.entries.Entry.{Entry}
 use Rattle.typing_state.specs.declared.parts.Parts.{Parts}
-use Rattle.env_table.specs.declared.seen.Seen.{Seen as Record}
-use Rattle.typing_state.specs.Goes.{Goes, OnlyIndex}
+use Rattle.typing_state.specs.Goes.{OnlyIndex}
 use Rattle.typing_state.specs.Notes.{NotedNameless}
 use Rattle.operand_laws.specs.Formed.{row_of}
 use Rattle.operand_laws.specs.Operands.{number_of, parts_of, child_at}
 use Rattle.operand_laws.proofs.Sorts.{children_stand}
-use Rattle.typing_conditions.specs.Sights.{Letters, AreScopesIn}
+use Rattle.typing_conditions.specs.Sights.{Letters}
 use Rattle.typing_steps.specs.States.{is_aloud, sight}
 use Rattle.typing_steps.specs.Typing.{as_declared}
 use Rattle.typing_steps.specs.Constants.{HasConstants}
-use Rattle.typing_steps.proofs.Recording.{noted_scope}
 use Rattle.typing_steps.proofs.Still.{plain_notes, notes_unseen, notes_untold}
 use Rattle.typing_rows.specs.Noted.{AreNoted}
+pub use Rattle.typing_rows.proofs.Noted.{plain_scope, still_scoped}
 use Rattle.binding_rows.specs.Outside.{Outside, OnlyBetween}
 use Rattle.binding_rows.specs.ItemRows.{IsItemNode, IsExceptionNode, recorded_let, recorded_exception, recorded_idle, ItemDone, ItemsDone, GivesLet, item_if, item_at}
 use Rattle.binding_rows.proofs.ItemOrders.{idle_done, done_one}
@@ -89,18 +88,6 @@ pub idle_given : {K : Type 0} (a b : Parts) (env : List Entry) (n : ℕ) (place 
     ItemsDone as_declared K E (item_at a.item (numbered n place (inner t))) seen seen a b G env
 idle_given {K} a b env n place t G E seen row here only outside constants noted known =
     subst (λ ms. ItemsDone as_declared K E ms seen seen a b G env) (sym (idle_there a.item n place t row)) (idle_one seen (idle_done (number_of a.item n) a.item n refl here seen only outside constants noted known))
-
--- Where faults are reported the names in scope are recorded for a node without a type.
-pub plain_scope : (a b : Parts) (number : ℕ) (env : List Entry) → is_aloud a.telling ≡ true → NotedNameless a b number env None → (sight b).scopes a.item number ≡ Some env
-plain_scope a b number env aloud (names, none, noted) = noted_scope a b number (record { env = env; ty = None; names = names }) aloud noted
-
--- the names in scope that were recorded are so still, whatever is typed later
-pub still_scoped : {a b : Parts} → Goes a b → AreScopesIn (sight a).scopes (sight b).scopes
-still_scoped {a} {b} goes i p env h = by _ (λ s e. ap (option_map (λ (x : Record). x.env)) (goes.recorded i p s e)) h
-  where
-    by : (o : Option Record) → ((s : Record) → o ≡ Some s → (sight b).scopes i p ≡ Some s.env) → option_map (λ (s : Record). s.env) o ≡ Some env → (sight b).scopes i p ≡ Some env
-    by None on k = absurd (cc)
-    by (Some s) on k = on s refl ∙ k
 
 -- A node is recorded without a type, and the next item begins.
 pub noted_between : (a b : Parts) (number : ℕ) (env : List Entry) → NotedNameless a b number env None → OnlyIndex a b → OnlyBetween (sight a) (sight b)

@@ -37,7 +37,7 @@ use Rattle.typing_steps.specs.States.{sight}
 use Rattle.typing_steps.specs.Constants.{HasConstants}
 use Rattle.typing_rows.specs.Noted.{AreNoted}
 use Rattle.binding_rows.specs.ItemRows.{AreOwned, none_owned, leaves_none, leaves_types, leaves_one, ItemDone, ItemsDone, recorded_idle}
-use Rattle.binding_rows.specs.Outside.{Lasts, AgreesOutside, AreMet, InEachMet, Outside, Left, letters_left, AreLeft, EntersItems, ReadsItems, ContinuesItems, StaysOutside, OnlyBetween, ItemsCarried, SeesItems}
+use Rattle.binding_rows.specs.Outside.{Lasts, AgreesOutside, AreMet, InEachMet, Outside, Left, letters_left, AreLeft, EntersItems, ReadsItems, ContinuesItems, StaysOutside, OnlyBetween, ItemsCarried, SeesItems, AreDecided}
 use Rattle.typing_conditions.specs.Hiding.{Keeps, HasCopy, NoneDoubtful, Settles}
 use Rattle.typing_conditions.proofs.Hiding.{none_doubtful, none_both, placed_before, copy_itself, copy_of, copy_first, copy_second, keeps_same, keeps_as, keeps_both, settles_none, settles_both, settles_as}
 
@@ -86,6 +86,11 @@ letters_both (l ∷ ls) ms = ap (λ xs. l.letters ++ xs) (letters_both ls ms) �
 -- the letters that items left have their types further on, and so have those of the next ones
 left_both : (ls ms : List Left) (nodes : List Node) (c : Sight) (ch : Choice) (V W : Types) → length nodes ≤ length c.nodes → SameAt nodes V W → AreNodes (letters_left ls) nodes × AreGiven (letters_left ls) V ch → AreHidden (letters_left ms) c W ch → AreHidden (letters_left (ls ++ ms)) c W ch
 left_both ls ms nodes c ch V W longer same p q = subst (λ xs. AreHidden xs c W ch) (sym (letters_both ls ms)) (hidden_both (letters_left ls) (letters_left ms) nodes c ch V W longer same p q)
+
+-- a choice that has the types that several items decide has them together
+decided_both : (ls ms : List Left) (ch : Choice) → AreDecided ls ch → AreDecided ms ch → AreDecided (ls ++ ms) ch
+decided_both [] ms ch p q = q
+decided_both (l ∷ ls) ms ch p q = (p.0, decided_both ls ms ch p.1 q)
 
 -- Items after others: what is asked next is what is asked in the context with the environment after those before, wherever what these ask is met as it was judged.
 pub record IsNext (E : Choice → Environment) (rest further : Asks) (after : Context → Environment) (x : Context) : Type 0 where
@@ -178,6 +183,7 @@ items_trans {E} {E'} {asks} {rest} {further} {a} {b} {c} {G} {H} {K} after p nex
       before = λ n lt. also.before n (let own = own_of c.nodes (q.stays.sound (p.stays.sound sound)) in let mid = own_of b.nodes (p.stays.sound sound) in let r = (p.stays.refines mid.0 mid.1).longer in omega arith) ∙ goes.before n lt;
       agrees = also.agrees;
       left_too = left_both p.left q.left b.nodes c x.chosen goes.types also.types (let own = own_of c.nodes (q.stays.sound (p.stays.sound sound)) in (q.stays.refines own.0 own.1).longer) also.before goes.left_too also.left_too;
+      decided = decided_both p.left q.left x.chosen goes.decided also.decided;
     })
     then_both V x goes same (inr short) = inr (falls_then x (rest x) goes.same (subst (λ cs. FallsShort (judgements x.kept cs) q.judged) (sym same) short))
 
@@ -247,6 +253,7 @@ items_between {E} {a} {b} {G} only = record {
     before = λ n lt. refl;
     agrees = record { recorded = λ i p m f. e.agrees.recorded i p m (sym (only.types i p) ∙ f); known = λ i p m f. e.agrees.known i p m (sym (only.types i p) ∙ f); given = e.agrees.given };
     left_too = (tt, tt);
+    decided = tt;
   });
   first = λ k V c e h. inl (subst (λ cs. StartsWith [] (judgements c.kept cs)) (sym (take_none k)) (starts_all []));
 }
@@ -278,7 +285,7 @@ items_then {E} {asks} {a} {b} {c} {G} {H} only p = record {
   sound = p.sound;
   follows = p.follows;
   complete = λ V x e h. elim (p.complete V x (enters V x e) h) [
-    | inl goes ↦ inl (record { same = goes.same; types = goes.types; fits = goes.fits; before = λ m lt. goes.before m (subst (λ ns. m < length ns) (sym only.nodes) lt); agrees = goes.agrees; left_too = goes.left_too })
+    | inl goes ↦ inl (record { same = goes.same; types = goes.types; fits = goes.fits; before = λ m lt. goes.before m (subst (λ ns. m < length ns) (sym only.nodes) lt); agrees = goes.agrees; left_too = goes.left_too; decided = goes.decided })
     | inr short ↦ inr short
   ];
   first = λ k V x e h. p.first k V x (enters V x e) h;
@@ -309,7 +316,7 @@ items_as {E} {asks} {others} {a} {b} {G} {H} same p = record {
   sound = λ V x l. subst (λ cs. Meets AnySeen x.kept cs p.judged p.told) (same x) (p.sound V x l);
   follows = λ V x l. subst (λ cs. Follows x.kept cs p.judged) (same x) (p.follows V x l);
   complete = λ V x e h. elim (p.complete V x e (subst (AllHold x.kept) (sym (same x)) h)) [
-    | inl goes ↦ inl (record { same = ap (judgements x.kept) (sym (same x)) ∙ goes.same; types = goes.types; fits = goes.fits; before = goes.before; agrees = goes.agrees; left_too = goes.left_too })
+    | inl goes ↦ inl (record { same = ap (judgements x.kept) (sym (same x)) ∙ goes.same; types = goes.types; fits = goes.fits; before = goes.before; agrees = goes.agrees; left_too = goes.left_too; decided = goes.decided })
     | inr short ↦ inr (subst (λ cs. FallsShort (judgements x.kept cs) p.judged) (same x) short)
   ];
   first = λ k V x e h. subst (λ cs. Decides x p.judged (take k cs)) (same x) (p.first k V x e (subst (λ cs. AllHold x.kept (take k cs)) (sym (same x)) h));
@@ -423,7 +430,7 @@ items_treated {E} {asks} {a} {b} {G} {H} n p = record {
   counted = p.counted;
   sound = λ V c l. let h = p.sound V c l in record { same = h.same; holds = (tt, h.holds); tells = h.tells; sees = (tt, h.sees); starts = refl };
   follows = p.follows;
-  complete = λ V c e h. elim (p.complete V c e h.1) [ inl goes ↦ inl (record { same = goes.same; types = goes.types; fits = goes.fits; before = goes.before; agrees = goes.agrees; left_too = goes.left_too }) | inr short ↦ inr short ];
+  complete = λ V c e h. elim (p.complete V c e h.1) [ inl goes ↦ inl (record { same = goes.same; types = goes.types; fits = goes.fits; before = goes.before; agrees = goes.agrees; left_too = goes.left_too; decided = goes.decided }) | inr short ↦ inr short ];
   first = first;
 }
   where

@@ -172,6 +172,7 @@ module _ {D : Declared} {n : ℕ} {ts : List Tok} {E : Choice → Environment} {
           subst (λ xs. AreNodes xs d.store.nodes) (sym (append-nil (item_part l).hidden)) (nodes_in (item_part l).hidden (item_limited l).nodes d.store.nodes same_length goes.hidden_too.0),
           subst (λ xs. AreGiven xs goes.types c.chosen) (sym (append-nil (item_part l).hidden)) goes.hidden_too.1,
         );
+        decided = (tt, tt);
       })
       | inr short ↦ inr short
     ];

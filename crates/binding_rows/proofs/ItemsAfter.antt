@@ -150,7 +150,7 @@ module _ {D : Declared} {n : ℕ} {ts : List Tok} {E : Choice → Environment} {
       let is : b.has_type (context_of ch) ≡ V c.node.0 = sym (none.0 ch (chosen V ch).written) ∙ h.means.is V (chosen V ch) (loose_before_close l V loose) (agrees_chosen V ch g) in
       let known : IsKnown (V c.node.0) = h.known V (chosen V ch) (agrees_chosen V ch g) in
       let r = subst (λ t. R d.store.nodes V c.node.0 (scheme ch t)) (sym is) (each k c.node.0 e known) in
-      name_more c.node h.entry.named h.entry.kind h.entry.is r (free c.node.0 (scheme ch (b.has_type (context_of ch))) r) (names_by R K V ch each free loose g hs none.1 (λ m i. among m (suc i.0, i.1)))
+      name_more c.node h.entry.named h.entry.kind h.entry.placed h.entry.is r (free c.node.0 (scheme ch (b.has_type (context_of ch))) r) (names_by R K V ch each free loose g hs none.1 (λ m i. among m (suc i.0, i.1)))
 
   names_read : (K V : Types) (ch : Choice) → IsOwn d.store.nodes K → IsReading d.store.nodes V → AgreesOutside (sight d) H V ch → NamesStand SchemeReads d.store.nodes K V (scheme ch) (context_of ch) (bind_entries (names_closed ys)) (names_of_group xs) (closed_nodes l)
   names_read K V ch own reads g =
@@ -200,7 +200,7 @@ joined_covers : {F : Frame} {a : Sight} {H : Letters} {A : Declaration → rules
 joined_covers none_bound C inside covers = covers
 joined_covers {A = A} {X = X} (one_bound {x = b} {y = c} h hs) C inside (fs, covers) = joined_covers hs (c.node.0 ∷ C) (c.entry ∷ inside) (
   entry b.name (rules.in_text b.place) (a_value (monomorphic (b.has_type (context_of no_choice)))) ∷ fs,
-  newest (entry_as h.entry.named (sym h.entry.kind) (of_value h.entry.is (zero, refl)))
+  newest (entry_as h.entry.named (sym h.entry.kind) h.entry.placed (of_value h.entry.is (zero, refl)))
       (env_map (λ r sc. IsIn C r) (λ r sc. IsIn (c.node.0 ∷ C) r) A A X X (λ r sc k. more_in C c.node.0 r k) (λ x f k. k) (λ x o k. k) covers),
 )
 

@@ -96,6 +96,11 @@ abbrev pub AreLeft : List Node → List Left → Types → Choice → Type 0
 AreLeft nodes [] V ch = Unit {0}
 AreLeft nodes (l ∷ ls) V ch = IsLeft nodes l V ch × AreLeft nodes ls V ch
 
+-- a choice has the types that are decided for the nodes of declarations
+abbrev pub AreDecided : List Left → Choice → Type 0
+AreDecided [] ch = Unit {0}
+AreDecided (l ∷ ls) ch = AreFixed l.fixed ch × AreDecided ls ch
+
 -- types with which a choice enters items
 pub record EntersItems (E : Choice → Environment) (a : Sight) (G : Letters) (V : Types) (c : Context) : Type 0 where
   pub env : c.env ≡ E c.chosen
@@ -111,7 +116,7 @@ pub record ReadsItems (E : Choice → Environment) (b : Sight) (G : Letters) (le
   pub left_too : AreLeft b.nodes left V c.chosen
   pub kept : AreKept c.kept judged
 
--- the demands are judged as they were, and the types go on, those of the letters that items left too
+-- the demands are judged as they were, and the types go on, those of the letters that items left too; and the choice has the types that are decided
 pub record ContinuesItems (asks : Asks) (a b : Sight) (G : Letters) (left : List Left) (judged : List Judgement) (V : Types) (c : Context) : Type 0 where
   pub same : judgements c.kept (asks c) ≡ judged
   pub types : Types
@@ -119,6 +124,7 @@ pub record ContinuesItems (asks : Asks) (a b : Sight) (G : Letters) (left : List
   pub before : SameAt a.nodes V types
   pub agrees : AgreesOutside b G types c.chosen
   pub left_too : AreHidden (letters_left left) b types c.chosen
+  pub decided : AreDecided left c.chosen
 
 -- what is made and recorded stays, and is read as before
 pub record StaysOutside (a : Sight) (G : Letters) (b : Sight) (G' : Letters) : Type 0 where

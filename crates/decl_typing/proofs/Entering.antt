@@ -1,5 +1,5 @@
 -- What an exception enters, by what its calls do.
-use Rattle.std.proofs.Common.{◌≡◌, ◌∙◌, ℕ, true, List, [], ◌∷◌, ◌++◌, Some, option_map, sym, ap, subst}
+use Rattle.std.proofs.Common.{◌≡◌, ◌∙◌, ℕ, List, [], ◌∷◌, ◌++◌, option_map, sym, ap, subst}
 use Rattle.tree_model.specs.Slots.{is_operand}
 use Rattle.tree_model.specs.Trees.{Tree}
 use Rattle.signature_model.specs.Records.{is_some}
@@ -8,12 +8,8 @@ use Rattle.typing_model.specs.Contexts.{parameters, tell}
 use Rattle.typing_model.specs.Parts.{TypeExpression, ConstructorPart}
 use Rattle.typing_model.specs.Declarations.{read_optional, constructor_row}
 use Rattle.env_table.specs.declared.entries.Entry.{Entry}
-use Rattle.env_table.specs.declared.seen.Seen.{Seen}
 use Rattle.typing_state.specs.declared.parts.Parts.{Parts}
 use Rattle.typing_state.specs.Goes.{Goes, OnlyIndex}
-use Rattle.typing_state.specs.Notes.{Noted}
-use Rattle.typing_steps.specs.States.{is_aloud, sight}
-use Rattle.typing_steps.proofs.Recording.{noted_scope}
 use Rattle.type_nodes.specs.Nodes.{IsSound}
 use Rattle.typing_conditions.specs.Locals.{IsPlain, ClosesAll}
 use Rattle.operand_laws.specs.Operands.{number_of, parts_of}
@@ -60,7 +56,3 @@ exception_closes a b d env number t e r rest goes read formed row = λ aloud zer
 
     same : k.argument ≡ argument_of a.item number t
     same = first_type_stands a.item number t 2 formed (ap (λ r. is_operand r 2) row)
-
--- the names in scope are recorded for a node that is noted after other calls
-pub scope_after : (a b d : Parts) (number : ℕ) (seen : Seen) → Goes a b → Noted b.telling b d number seen → is_aloud a.telling ≡ true → (sight d).scopes a.item number ≡ Some seen.env
-scope_after a b d number seen goes noted aloud = ap (λ i. (sight d).scopes i number) (sym goes.item) ∙ noted_scope b d number seen (ap is_aloud goes.telling ∙ aloud) noted

@@ -6,7 +6,7 @@ use Rattle.std.specs.declared.rc.Rc.{Rc}
 use Rattle.std.specs.declared.alloc.Global.{Global}
 use denote.Ref.{Bor}
 use Rattle.syntax_tree.specs.declared.tree.Token.{Token}
-use Rattle.text_terms.specs.Bytes.{str_bytes}
+use Rattle.syntax_tree.specs.View.{tok_of}
 use Rattle.env_table.specs.declared.entries.Declaration.{Declaration}
 use Rattle.env_table.specs.declared.entries.Entry.{Entry}
 use Rattle.decl_groups.specs.declared.groups.DeclarationPart.{DeclarationPart}
@@ -29,11 +29,11 @@ pub first_none : (x : Declaration) (ts : List (ℕ × Bor Token)) (before : List
 first_none x ts before small = record { made = []; all = sym (append-nil before); whole = λ more told. told }
 
 -- one more is made
-pub first_more : (x : Declaration) (ts : List (ℕ × Bor Token)) (k : ℕ) (t : ℕ × Bor Token) (before now : List (Rc Entry Global)) (e : Rc Entry Global) → k < length ts → t ≡ slice_index_or ts k t → (k < 2 ^ 32 → IsToldEntry x k (str_bytes t.1.now.name) e.value) → FirstTold x ts k before now →
+pub first_more : (x : Declaration) (ts : List (ℕ × Bor Token)) (k : ℕ) (t : ℕ × Bor Token) (before now : List (Rc Entry Global)) (e : Rc Entry Global) → k < length ts → t ≡ slice_index_or ts k t → (k < 2 ^ 32 → IsToldEntry x k (tok_of t.1.now) e.value) → FirstTold x ts k before now →
     FirstTold x ts (k + 1) before (now ++ e ∷ [])
 first_more x ts k t before now e lt here told first small =
     let f = first small in
-    let many : length (second_names ts) ≡ length ts = length-map ts (λ (u : ℕ × Bor Token). str_bytes u.1.now.name) in
+    let many : length (second_names ts) ≡ length ts = length-map ts (λ (u : ℕ × Bor Token). tok_of u.1.now) in
     record {
       made = f.made ++ e ∷ [];
       all = ap (λ es. es ++ e ∷ []) f.all ∙ append_assoc before f.made (e ∷ []);

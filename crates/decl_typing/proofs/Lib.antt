@@ -4,6 +4,7 @@ pub mod Constructors
 pub mod Labels
 pub mod Denoting
 pub mod Entering
+pub mod Treating
 pub mod LabelParts
 pub mod Made
 pub mod MadeLabels

@@ -1,49 +1,61 @@
 -- What an item that declares an exception makes: its entry, and the root of its type.
-use Rattle.std.specs.Prelude.{◌≡◌, ℕ, Bool, true, List, [], ◌∷◌, Option, Some, None, option_map}
+use Rattle.std.specs.Prelude.{◌≡◌, ℕ, Bool, List, [], ◌∷◌, Option, Some, None, option_map}
 use Rattle.std.specs.declared.rc.Rc.{Rc}
 use Rattle.std.specs.declared.alloc.Global.{Global}
 use Rattle.token_model.specs.Kinds.{Tok}
 use Rattle.tree_model.specs.Rows.{con_row}
 use Rattle.tree_model.specs.Trees.{Tree, Part, taken, inner, missing}
 use Rattle.text_terms.specs.Bytes.{str_bytes}
-use Rattle.signature_model.specs.Declarations.{Name}
+use Rattle.signature_model.specs.Declarations.{in_text}
+use Rattle.typing_model.specs.Parts.{place_of}
+use Rattle.typing_conditions.specs.Environments.{defined_at}
 use Rattle.signature_model.specs.Records.{is_some}
 use Rattle.typing_model.specs.BuiltIns.{exn_type}
-use Rattle.typing_model.specs.Declarations.{exception_asks, constructor_row}
+use Rattle.typing_model.specs.Declarations.{read_optional, exception_asks, constructor_row}
 use Rattle.env_table.specs.declared.entries.Constructor.{Constructor}
 use Rattle.env_table.specs.declared.entries.Entry.{Entry}
 use Rattle.env_table.specs.declared.entries.Kind.TheVariants as kind
 use Rattle.env_table.specs.declared.entries.What.TheVariants as what
 use Rattle.row_parts.specs.Numbered.{Numbered, first_in, token_in}
 use Rattle.typing_state.specs.declared.parts.Parts.{Parts}
-use Rattle.typing_steps.specs.States.{is_aloud, sight}
+use Rattle.typing_rows.specs.Treating.{TreatsTo}
 use Rattle.operand_laws.specs.Formed.{row_of, IsFormed}
 use Rattle.operand_laws.specs.Operands.{number_of, parts_of}
 use Rattle.decl_typing.specs.declared.decls.Declared.{Declared}
 use Rattle.decl_typing.specs.Denoting.{ClosesOption}
+use Rattle.decl_typing.specs.Settling.{argument_of}
 
--- an entry is an exception of this name, with this root, which takes an argument or not
-pub record IsException (x : Entry) (n : Name) (r : ℕ) (given : Bool) : Type 0 where
+-- an entry is an exception whose name is written as this token, with this root, which takes an argument or not
+pub record IsException (x : Entry) (t : Tok) (r : ℕ) (given : Bool) : Type 0 where
   pub cell : Rc Constructor Global
   pub what : x.what ≡ what.Exception cell
   pub root : cell.value.root.0 ≡ r
   pub takes : cell.value.has_argument ≡ given
-  pub name : str_bytes x.name ≡ n
+  pub name : str_bytes x.name ≡ t.name
   pub kind : x.kind ≡ kind.Constructor
+  pub placed : defined_at x.place ≡ in_text (place_of t)
 
 -- Between items a call closes the root of an exception, whose node has this number.
 abbrev pub ClosesException : (a b : Parts) → List Entry → (number : ℕ) → Tree → (e r : ℕ) → Type 0
 ClosesException a b env number t e r =
     IsFormed number t → row_of t ≡ con_row → ClosesOption a b env [] [] (λ c. exception_asks c (constructor_row (number_of a.item number) (parts_of a.item number t))) (constructor_row (number_of a.item number) (parts_of a.item number t)).argument exn_type e r
 
--- The entry that such a call answers is an exception with that root, of the name that is written. `scoped`: where faults are reported, the names in scope are recorded for its node.
+-- Where faults are reported the names in scope are recorded for the nodes in the argument of a constructor.
+abbrev pub TreatsArgument : (a b : Parts) → List Entry → (number : ℕ) → Tree → Type 0
+TreatsArgument a b env number t = IsFormed number t → TreatsTo a b env (λ c. read_optional c (argument_of a.item number t))
+
+-- the same for an exception, with the node of its constructor
+abbrev pub TreatsException : (a b : Parts) → List Entry → (number : ℕ) → Tree → Type 0
+TreatsException a b env number t = IsFormed number t → row_of t ≡ con_row → TreatsTo a b env (λ c. exception_asks c (constructor_row (number_of a.item number) (parts_of a.item number t)))
+
+-- The entry that such a call answers is an exception with that root, of the name that is written. `treats`: where faults are reported, the names in scope are recorded for each node that is treated in it.
 pub record DeclaresOne (a b : Parts) (env : List Entry) (number : ℕ) (t : Tree) (e : ℕ) (x : Entry) : Type 0 where
   pub root : ℕ
-  pub name : Name
+  pub name : Tok
   pub entry : IsException x name root (is_some (first_in number t 2))
-  pub named : option_map (λ (k : Tok). k.name) (token_in t 0) ≡ Some name
+  pub named : token_in t 0 ≡ Some name
   pub closes : ClosesException a b env number t e root
-  pub scoped : is_aloud a.telling ≡ true → (sight b).scopes a.item number ≡ Some env
+  pub treats : TreatsException a b env number t
 
 -- it answers none where no name is written
 abbrev pub DeclaresException : (a b : Parts) → List Entry → (number : ℕ) → Tree → (e : ℕ) → Option (Rc Entry Global) → Type 0

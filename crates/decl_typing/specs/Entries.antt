@@ -4,8 +4,12 @@ use Rattle.std.specs.declared.rc.Rc.{Rc}
 use Rattle.std.specs.declared.alloc.Global.{Global}
 use denote.Ref.{Bor}
 use Rattle.text_terms.specs.Bytes.{str_bytes}
+use Rattle.token_model.specs.Kinds.{Tok}
+use Rattle.syntax_tree.specs.View.{tok_of}
 use Rattle.syntax_tree.specs.declared.tree.Token.{Token}
-use Rattle.signature_model.specs.Declarations.{Name}
+use Rattle.signature_model.specs.Declarations.{in_text}
+use Rattle.typing_model.specs.Parts.{place_of}
+use Rattle.typing_conditions.specs.Environments.{defined_at}
 use Rattle.env_table.specs.declared.entries.Declaration.{Declaration}
 use Rattle.env_table.specs.declared.entries.Entry.{Entry}
 use Rattle.env_table.specs.declared.entries.Kind.{Kind}
@@ -24,13 +28,14 @@ use Rattle.typing_state.specs.declared.parts.Parts.{Parts}
 use Rattle.typing_state.specs.declared.parts.Telling.TheVariants.{Quiet}
 use Rattle.decl_typing.specs.Owned.{told_in, AreOpaque}
 
--- an entry is the name of a type with this declaration
-pub record IsTypeEntry (x : Declaration) (n : Name) (e : Entry) : Type 0 where
+-- an entry is the name of a type with this declaration, which is written as this token
+pub record IsTypeEntry (x : Declaration) (t : Tok) (e : Entry) : Type 0 where
   pub cell : Rc Declaration Global
   pub what : e.what ≡ what.Type cell
   pub is : cell.value ≡ x
-  pub name : str_bytes e.name ≡ n
+  pub name : str_bytes e.name ≡ t.name
   pub kind : e.kind ≡ kind.TypeName
+  pub placed : defined_at e.place ≡ in_text (place_of t)
 
 -- what the name of a constructor or label stands for: its declaration, and its place there
 abbrev pub told_what : Shape → Rc Declaration Global → ℕ → What
@@ -42,59 +47,60 @@ abbrev pub told_kind : Shape → Kind
 told_kind (shape.Labels ls) = kind.Label
 told_kind _ = kind.Constructor
 
--- an entry is the constructor or label of a declaration at a place
-pub record IsToldEntry (x : Declaration) (place : ℕ) (n : Name) (e : Entry) : Type 0 where
+-- an entry is the constructor or label of a declaration at a place, whose name is written as this token
+pub record IsToldEntry (x : Declaration) (place : ℕ) (t : Tok) (e : Entry) : Type 0 where
   pub cell : Rc Declaration Global
   pub what : e.what ≡ told_what x.shape cell place
   pub is : cell.value ≡ x
-  pub name : str_bytes e.name ≡ n
+  pub name : str_bytes e.name ≡ t.name
   pub kind : e.kind ≡ told_kind x.shape
+  pub placed : defined_at e.place ≡ in_text (place_of t)
 
 -- a type has an entry where it has a name
 abbrev pub TypeEntryIf : Declaration → Option (Bor Token) → Option (Rc Entry Global) → Type 0
 TypeEntryIf x None None = Unit {0}
-TypeEntryIf x (Some t) (Some e) = IsTypeEntry x (str_bytes t.now.name) e.value
+TypeEntryIf x (Some t) (Some e) = IsTypeEntry x (tok_of t.now) e.value
 TypeEntryIf x _ _ = ⊥
 
 -- entries are the constructors or labels of a declaration from a place on, in order
-pub data AreTold (x : Declaration) : (place : ℕ) → List Name → List Entry → Type 0 where
+pub data AreTold (x : Declaration) : (place : ℕ) → List Tok → List Entry → Type 0 where
   none_told : {k : ℕ} → AreTold x k [] []
-  one_told : {k : ℕ} {n : Name} {ns : List Name} {e : Entry} {es : List Entry} → IsToldEntry x k n e → AreTold x (suc k) ns es → AreTold x k (n ∷ ns) (e ∷ es)
+  one_told : {k : ℕ} {t : Tok} {ts : List Tok} {e : Entry} {es : List Entry} → IsToldEntry x k t e → AreTold x (suc k) ts es → AreTold x k (t ∷ ts) (e ∷ es)
 
 -- a name that may be missing, before others
-abbrev pub named_first : Option (Bor Token) → List Name → List Name
-named_first None ns = ns
-named_first (Some t) ns = str_bytes t.now.name ∷ ns
+abbrev pub named_first : Option (Bor Token) → List Tok → List Tok
+named_first None ts = ts
+named_first (Some t) ts = tok_of t.now ∷ ts
 
 -- the names of constructors, and of labels, that have one
-abbrev pub constructor_names : List ConstructorPart → List Name
+abbrev pub constructor_names : List ConstructorPart → List Tok
 constructor_names [] = []
 constructor_names (p ∷ ps) = named_first p.name (constructor_names ps)
 
-abbrev pub label_names : List LabelPart → List Name
+abbrev pub label_names : List LabelPart → List Tok
 label_names [] = []
 label_names (p ∷ ps) = named_first p.name (label_names ps)
 
 -- the names of what is told of a type
-abbrev pub names_told : Told → List Name
+abbrev pub names_told : Told → List Tok
 names_told (Constructors ps) = constructor_names ps.items
 names_told (Labels ps) = label_names ps.items
 
 -- the same where something is told
-abbrev pub names_told_if : Option Told → List Name
+abbrev pub names_told_if : Option Told → List Tok
 names_told_if None = []
 names_told_if (Some k) = names_told k
 
 -- names with numbers, as the code has them
-abbrev pub second_names : List (ℕ × Bor Token) → List Name
-second_names ts = map (λ (t : ℕ × Bor Token). str_bytes t.1.now.name) ts
+abbrev pub second_names : List (ℕ × Bor Token) → List Tok
+second_names ts = map (λ (t : ℕ × Bor Token). tok_of t.1.now) ts
 
 -- entries of the code
 abbrev pub values_of : List (Rc Entry Global) → List Entry
 values_of es = map (λ (e : Rc Entry Global). e.value) es
 
 -- The entries of these names are added after others, where their places are numbers of 32 bits.
-abbrev pub AddsTold : Declaration → List Name → (before after : List (Rc Entry Global)) → Type 0
+abbrev pub AddsTold : Declaration → List Tok → (before after : List (Rc Entry Global)) → Type 0
 AddsTold x ns before after = length ns < 2 ^ 32 → (es : List (Rc Entry Global)) × (after ≡ before ++ es) × AreTold x 0 ns (values_of es)
 
 -- The entries of a declaration: that of its name, and then those of its constructors or labels.

@@ -6,10 +6,12 @@ ghost use Rattle.row_parts.specs.Numbered.{first_in, operand_view};
 ghost use Rattle.typing_state.specs.Goes.{Goes, OnlyFaults, OnlyIndex, OnlyStore};
 ghost use Rattle.type_nodes.specs.Nodes.{IsSound};
 ghost use Rattle.type_nodes.specs.Views.{numbers};
+ghost use Rattle.typing_conditions.specs.Environments.{defined_at};
 ghost use Rattle.typing_conditions.specs.Locals.{IsPlain};
 ghost use Rattle.operand_laws.specs.Operands.{number_of};
 ghost use Rattle.type_model.specs.Types.{Typ};
-ghost use Rattle.signature_model.specs.Declarations.{Name};
+ghost use Rattle.signature_model.specs.Declarations.{Name, in_text};
+ghost use Rattle.typing_model.specs.Parts.{place_of};
 ghost use Rattle.signature_model.specs.Records.{is_some};
 ghost use Rattle.typing_model.specs.Contexts.{tell};
 ghost use Rattle.typing_model.specs.Declarations.{read_optional};
@@ -18,7 +20,7 @@ ghost use Rattle.type_expressions.specs.Items.{IsOver, HasNodes, names_of, nodes
 ghost use Rattle.type_expressions.specs.Untyped.{Untyped};
 ghost use Rattle.typing_rows.specs.DeclaredContracts.{SettlesTo};
 ghost use Rattle.decl_typing.specs.Denoting.{DenotesArgument, DenotesConstructor, ClosesArgument};
-ghost use Rattle.decl_typing.specs.Entering.{IsException, DeclaresException, DeclaresPartIf, DeclaresItem, alone, entered};
+ghost use Rattle.decl_typing.specs.Entering.{IsException, DeclaresException, DeclaresPartIf, DeclaresItem, alone, entered, TreatsArgument};
 ghost use Rattle.decl_typing.specs.Asked.{tokens_as, SettlesTokens};
 ghost use Rattle.decl_typing.specs.Owned.{IsOwnRight, AreOwnRights, IsVariant, IsRecord, told_in, ReadsTold, MakesType, ClosesType, OriginOf, DeclaresType, MakesOwnRoot, MakesOpaque, AreOpaque};
 ghost use Rattle.decl_typing.specs.Entries.{TypeEntryIf, IsToldEntry, second_names, names_told, constructor_names, label_names, names_told_if, values_of, AddsTold, AddsEntries, EntersNames, GroupEntered, QuietlyEntered};
@@ -37,7 +39,7 @@ use decl_groups::{
     ConstructorPart, DeclarationPart, LabelPart, Mentions, Right, Told, clear, declarations_of,
     is_set, last_token, missing_in,
 };
-use env_table::{Constructor, Declaration, Entry, Env, Kind, Label, Shape, What};
+use env_table::{Constructor, Declaration, Entry, Env, Kind, Label, Place, Shape, What};
 use owned_lists::{owned, push, shared};
 use row_parts::{Operand, first_operand, token};
 use std::alloc::Global;
@@ -258,11 +260,12 @@ fn entry_of(at: &Parts, name: &Token, kind: Kind, what: What) -> Result<Rc<Entry
     ensures name { IfOk result (λ e. str_bytes e.value.name ≡ str_bytes name.now.name) }
     ensures kind { IfOk result (λ e. e.value.kind ≡ kind) }
     ensures what { IfOk result (λ e. e.value.what ≡ what) }
+    ensures placed { IfOk result (λ e. defined_at e.value.place ≡ in_text (place_of (tok_of name.now))) }
 {
     let entry = Entry {
         name: name.name.share()?,
         kind,
-        place: at.place(name.span),
+        place: Place::Buffer(name.span),
         what,
     };
     owned(at.alloc(), entry)
@@ -821,7 +824,7 @@ fn told_entry(
     place: u32,
     name: &Token,
 ) -> Result<Rc<Entry>, NoMemory>
-    ensures { IfOk result (λ e. IsToldEntry declaration.now.value place (str_bytes name.now.name) e.value) }
+    ensures { IfOk result (λ e. IsToldEntry declaration.now.value place (tok_of name.now) e.value) }
 {
     let owner = shared(declaration)?;
     match &declaration.shape {
@@ -1183,7 +1186,7 @@ fn exception_entry(
     name: &Token,
     root: NodeRef,
 ) -> Result<Rc<Entry>, NoMemory>
-    ensures { IfOk result (λ x. IsException x.value (tok_of name.now).name root.0 (is_some (first_in number (node_view node.now) 2))) }
+    ensures { IfOk result (λ x. IsException x.value (tok_of name.now) root.0 (is_some (first_in number (node_view node.now) 2))) }
 {
     let constructor = Constructor {
         name: name.name.share()?,
@@ -1194,7 +1197,7 @@ fn exception_entry(
     let entry = Entry {
         name: name.name.share()?,
         kind: Kind::Constructor,
-        place: at.place(name.span),
+        place: Place::Buffer(name.span),
         what,
     };
     owned(at.alloc(), entry)
@@ -1210,6 +1213,7 @@ fn exception_type(
 ) -> Result<NodeRef, NoMemory>
     ensures settles { OnOk result (SettlesArgument at.old at.new env.now [] number (node_view node.now)) }
     ensures means { IfOk result (λ r. ClosesArgument at.old at.new env.now [] [] number (node_view node.now) exn_type at.old.constants.exn.0 r.0) }
+    ensures treats { OnOk result (TreatsArgument at.old at.new env.now number (node_view node.now)) }
     ensures untyped { OnOk result (Untyped at.old at.new) }
     ensures goes { Goes at.old at.new }
 {
@@ -1233,6 +1237,7 @@ fn exception_root(
 ) -> Result<NodeRef, NoMemory>
     ensures settles { OnOk result (SettlesArgument at.old at.new env.now [] number (node_view node.now)) }
     ensures means { IfOk result (λ m. DenotesArgument at.old at.new env.now [] [] number (node_view node.now) exn_type at.old.constants.exn.0 m.0) }
+    ensures treats { OnOk result (TreatsArgument at.old at.new env.now number (node_view node.now)) }
     ensures untyped { OnOk result (Untyped at.old at.new) }
     ensures goes { Goes at.old at.new }
 {

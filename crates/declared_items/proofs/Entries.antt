@@ -5,15 +5,17 @@ use Rattle.std.proofs.lemmas.List.{map-append}
 use Rattle.std.specs.declared.rc.Rc.{Rc}
 use Rattle.std.specs.declared.alloc.Global.{Global}
 use denote.Ref.{Bor}
+use Rattle.token_model.specs.Kinds.{Tok}
 use Rattle.syntax_tree.specs.declared.tree.Token.{Token}
 use Rattle.syntax_tree.specs.View.{tok_of}
 use Rattle.type_model.specs.Types.{Typ}
 use Rattle.type_model.specs.Schemes.{Scheme}
 use Rattle.signature_model.specs.Declarations as rules
-use Rattle.signature_model.specs.Declarations.{Name}
+use Rattle.signature_model.specs.Declarations.{in_text}
 use Rattle.signature_model.specs.Entries.{Environment, entry, a_constructor, a_label, entries_of_shape}
 use Rattle.signature_model.specs.Entries.{Entry as Named}
 use Rattle.typing_model.specs.Declarations.{variant_of, type_entry}
+use Rattle.typing_model.specs.Parts.{place_of}
 use Rattle.env_table.specs.declared.entries.Constructor.{Constructor}
 use Rattle.env_table.specs.declared.entries.Declaration.{Declaration}
 use Rattle.env_table.specs.declared.entries.Entry.{Entry}
@@ -64,15 +66,15 @@ module _ (x : Declaration) (rule : rules.Declaration) where
   what_record (shape.Variant ks) is cell k = absurd is
 
   -- one constructor, and one label
-  constructor_told : (k : ℕ) (n : Name) (e : Entry) (c : rules.Constructor) → IsVariant x.shape → constructor_at rule.shape k ≡ Some c → c.name ≡ n → IsToldEntry x k n e → EntryAs No Own None_too e (entry c.name c.place (a_constructor rule c))
-  constructor_told k n e c is there name told =
+  constructor_told : (k : ℕ) (t : Tok) (e : Entry) (c : rules.Constructor) → IsVariant x.shape → constructor_at rule.shape k ≡ Some c → c.name ≡ t.name → c.place ≡ in_text (place_of t) → IsToldEntry x k t e → EntryAs No Own None_too e (entry c.name c.place (a_constructor rule c))
+  constructor_told k t e c is there name place told =
       let w = what_variant x.shape is told.cell k in
-      entry_as (name ∙ sym told.name) (sym (ap kind_of (told.kind ∙ w.1))) (of_constructor (told.what ∙ w.0) (told.is, refl) there)
+      entry_as (name ∙ sym told.name) (sym (ap kind_of (told.kind ∙ w.1))) (told.placed ∙ sym place) (of_constructor (told.what ∙ w.0) (told.is, refl) there)
 
-  label_told : (k : ℕ) (n : Name) (e : Entry) (l : rules.Label) → IsRecord x.shape → label_at rule.shape k ≡ Some l → l.name ≡ n → IsToldEntry x k n e → EntryAs No Own None_too e (entry l.name l.place (a_label rule l))
-  label_told k n e l is there name told =
+  label_told : (k : ℕ) (t : Tok) (e : Entry) (l : rules.Label) → IsRecord x.shape → label_at rule.shape k ≡ Some l → l.name ≡ t.name → l.place ≡ in_text (place_of t) → IsToldEntry x k t e → EntryAs No Own None_too e (entry l.name l.place (a_label rule l))
+  label_told k t e l is there name place told =
       let w = what_record x.shape is told.cell k in
-      entry_as (name ∙ sym told.name) (sym (ap kind_of (told.kind ∙ w.1))) (of_label (told.what ∙ w.0) (told.is, refl) there)
+      entry_as (name ∙ sym told.name) (sym (ap kind_of (told.kind ∙ w.1))) (told.placed ∙ sym place) (of_label (told.what ∙ w.0) (told.is, refl) there)
 
   -- the entries of constructors in the definitions, and of labels
   abbrev constructor_entries : List rules.Constructor → List Named
@@ -90,7 +92,7 @@ module _ (x : Declaration) (rule : rules.Declaration) where
       by : (o : Option (Bor Token)) (zs : List Entry) → ((m : ℕ) (ys : List Entry) → ((j : ℕ) (u : rules.Constructor) → slice_get (constructors_by ps ts) j ≡ Some u → constructor_at rule.shape (m + j) ≡ Some u) → AreTold x m (constructor_names ps) ys → OwnEntries ys (constructor_entries (constructors_by ps ts))) → ((j : ℕ) (u : rules.Constructor) → slice_get (with_constructor o t (constructors_by ps ts)) j ≡ Some u → constructor_at rule.shape (k + j) ≡ Some u) → AreTold x k (named_first o (constructor_names ps)) zs → OwnEntries zs (constructor_entries (with_constructor o t (constructors_by ps ts)))
       by None zs rec at told = rec k zs at told
       by (Some m) zs rec at (one_told {e = y} {es = ys} one rest) =
-          newest (constructor_told k _ y _ is (ap (constructor_at rule.shape) (omega arith) ∙ at 0 _ refl) refl one)
+          newest (constructor_told k _ y _ is (ap (constructor_at rule.shape) (omega arith) ∙ at 0 _ refl) refl refl one)
           (rec (suc k) ys (λ j u h. ap (constructor_at rule.shape) (let f : suc k + j ≡ k + suc j = omega arith in f) ∙ at (suc j) u h) rest)
   constructors_told k es is (nameless {p} {ps} {t} {ts} none more) at told =
       let at' = subst (λ o. (j : ℕ) (u : rules.Constructor) → slice_get (with_constructor o t (constructors_by ps ts)) j ≡ Some u → constructor_at rule.shape (k + j) ≡ Some u) none at in
@@ -106,7 +108,7 @@ module _ (x : Declaration) (rule : rules.Declaration) where
       by : (o : Option (Bor Token)) (zs : List Entry) → ((m : ℕ) (ys : List Entry) → ((j : ℕ) (u : rules.Label) → slice_get (labels_by ps ts) j ≡ Some u → label_at rule.shape (m + j) ≡ Some u) → AreTold x m (label_names ps) ys → OwnEntries ys (label_entries (labels_by ps ts))) → ((j : ℕ) (u : rules.Label) → slice_get (with_label p o t (labels_by ps ts)) j ≡ Some u → label_at rule.shape (k + j) ≡ Some u) → AreTold x k (named_first o (label_names ps)) zs → OwnEntries zs (label_entries (with_label p o t (labels_by ps ts)))
       by None zs rec at told = rec k zs at told
       by (Some m) zs rec at (one_told {e = y} {es = ys} one rest) =
-          newest (label_told k _ y _ is (ap (label_at rule.shape) (omega arith) ∙ at 0 _ refl) refl one)
+          newest (label_told k _ y _ is (ap (label_at rule.shape) (omega arith) ∙ at 0 _ refl) refl refl one)
           (rec (suc k) ys (λ j u h. ap (label_at rule.shape) (let f : suc k + j ≡ k + suc j = omega arith in f) ∙ at (suc j) u h) rest)
   labels_told k es is (nameless_label {p} {ps} {t} {ts} none more) at told =
       let at' = subst (λ o. (j : ℕ) (u : rules.Label) → slice_get (with_label p o t (labels_by ps ts)) j ≡ Some u → label_at rule.shape (k + j) ≡ Some u) none at in
@@ -134,7 +136,7 @@ module _ (x : Declaration) (rule : rules.Declaration) where
   name_entry None None is = no_names
   name_entry None (Some e) is = absurd is
   name_entry (Some t) None is = absurd is
-  name_entry (Some t) (Some e) is = newest (entry_as (sym is.name) (sym (ap kind_of is.kind)) (of_type is.what (is.is, refl))) no_names
+  name_entry (Some t) (Some e) is = newest (entry_as (sym is.name) (sym (ap kind_of is.kind)) is.placed (of_type is.what (is.is, refl))) no_names
 
   -- The entries of a declaration, the newest first, are those of the definitions.
   pub own_entries : {A : Assignment} {owner : Typ} {fixes : Fixes} {i : ℕ} (p : DeclarationPart) (es : List (Rc Entry Global)) (m : ShapeMade A owner fixes i (told_in p.right) x.shape) → rule.shape ≡ shape_by m → EntriesOf x p es →

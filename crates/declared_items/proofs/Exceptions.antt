@@ -4,6 +4,7 @@ use Rattle.std.specs.Prelude.{Result, Ok, Err, OnOk}
 use Rattle.std.specs.declared.rc.Rc.{Rc}
 use Rattle.std.specs.declared.alloc.Global.{Global}
 use Rattle.token_model.specs.Kinds.{Tok}
+use Rattle.tree_model.specs.Rows.{con_row}
 use Rattle.tree_model.specs.Slots.{is_operand}
 use Rattle.tree_model.specs.Trees.{Tree, Place, inner}
 use Rattle.type_model.specs.Types.{Typ}
@@ -14,10 +15,11 @@ use Rattle.signature_model.specs.Entries.{Entry as Named}
 use Rattle.signature_model.specs.Records.{is_some}
 use Rattle.typing_laws.proofs.Bools.{no_yes, and_both}
 use Rattle.typing_model.specs.BuiltIns.{exn_type}
-use Rattle.typing_model.specs.Contexts.{Choice, Context, parameters, tell}
-use Rattle.typing_model.specs.Declarations.{constructor_row, read_optional, exception_asks, entries_of_exception}
+use Rattle.typing_model.specs.Contexts.{Choice, Context}
+use Rattle.typing_model.specs.Declarations.{constructor_row, exception_asks, entries_of_exception}
 use Rattle.typing_model.specs.Items.{exception_components}
 use Rattle.typing_model.specs.Parts.{ConstructorPart, TypeExpression, Seen, no_names, place_of}
+use Rattle.typing_conditions.specs.Environments.{defined_at}
 use Rattle.env_table.specs.declared.entries.Entry.{Entry}
 use Rattle.env_table.specs.Views.{kind_of}
 use Rattle.row_parts.specs.Numbered.{numbered, first_in, token_in}
@@ -31,7 +33,7 @@ use Rattle.typing_steps.specs.Constants.{HasConstants}
 use Rattle.typing_steps.specs.States.{is_aloud, sight, fixed_of}
 use Rattle.typing_steps.specs.Typing.{as_declared}
 use Rattle.typing_steps.proofs.Starting.{constants_kept}
-use Rattle.operand_laws.specs.Formed.{IsFormed, IsPartFormed}
+use Rattle.operand_laws.specs.Formed.{row_of, IsFormed, IsPartFormed}
 use Rattle.operand_laws.specs.Operands.{number_of, parts_of, type_of}
 use Rattle.operand_laws.proofs.Sorts.{first_type_stands}
 use Rattle.operand_laws.proofs.Tokens.{token_stands}
@@ -44,7 +46,8 @@ use Rattle.binding_rows.specs.ItemRows.{recorded_exception, IsExceptionNode, Are
 use Rattle.binding_rows.specs.Outside.{Outside}
 use Rattle.binding_rows.proofs.ItemKinds.{exception_there, none_too, plain_scope, still_scoped, noted_between}
 use Rattle.binding_rows.proofs.ItemOrders.{done_one, items_treated, treated_owned, treated_sees, outside_between}
-use Rattle.first_laws.specs.Declaring.{OnlyTypes, StartsAfter, IsScoped}
+use Rattle.first_laws.specs.Declaring.{OnlyTypes, StartsAfter}
+use Rattle.typing_rows.specs.Treating.{IsScoped}
 use Rattle.first_laws.proofs.Known.{knows_option}
 use Rattle.first_laws.proofs.Exceptions.{outside_exception, exception_known, exception_types}
 use Rattle.first_laws.proofs.SettledItems.{types_left, fixed_met, items_settled, settled_sees}
@@ -57,9 +60,9 @@ use Rattle.declared_items.proofs.Adding.{item_added_between}
 use Rattle.declared_items.proofs.Bare.{closed_bare}
 use Rattle.declared_items.proofs.Frames.{own_types, own_at, exn_node, exn_inside, exn_closed, item_frame, frame_declares, starts, names_before, inside_none, exn_denotes}
 
--- the token of a name, and the name
-one_name : (o : Option Tok) (t : Tok) (n : List ℕ) → o ≡ Some t → option_map (λ (k : Tok). k.name) o ≡ Some n → t.name ≡ n
-one_name o t n e f = let g : option_map (λ (k : Tok). k.name) (Some t) ≡ Some n = ap (option_map (λ (k : Tok). k.name)) (sym e) ∙ f in cc
+-- a name is written as one token
+one_token : (o : Option Tok) (t u : Tok) → o ≡ Some t → o ≡ Some u → t ≡ u
+one_token o t u e f = let g : Some t ≡ Some u = sym e ∙ f in cc
 
 -- a type that isn't there is known
 none_known : (o : Option Typ) → is_some o ≡ false → knows_option o ≡ true
@@ -67,7 +70,7 @@ none_known None e = refl
 none_known (Some t) e = absurd (no_yes (sym e))
 
 -- The exception is declared from a state between items, with its constructor u, which has the number k in the item.
-module _ (b d : Parts) {G : Letters} {env : List Entry} {E : Choice → Environment} (at : Outside as_declared (sight b) G env E) (constants : HasConstants b) (k : ℕ) (u : Tree) (name : Tok) (named : token_in u 0 ≡ Some name) (formed : IsFormed k u)
+module _ (b d : Parts) {G : Letters} {env : List Entry} {E : Choice → Environment} (at : Outside as_declared (sight b) G env E) (constants : HasConstants b) (k : ℕ) (u : Tree) (name : Tok) (named : token_in u 0 ≡ Some name) (formed : IsFormed k u) (is_con : row_of u ≡ con_row)
     (argument_there : (constructor_row (number_of b.item k) (parts_of b.item k u)).argument ≡ option_map (type_of b.item) (first_in k u 2))
     (aloud : is_aloud b.telling ≡ true) (y : Entry) (one : DeclaresOne b d env k u (exn_node b at constants) y)
     (z : OptionClosed (names_before b at constants []) (λ c. exception_asks c (constructor_row (number_of b.item k) (parts_of b.item k u))) (constructor_row (number_of b.item k) (parts_of b.item k u)).argument (item_frame b at constants) 0 b d (starts b at constants) exn_type one.root)
@@ -85,30 +88,34 @@ module _ (b d : Parts) {G : Letters} {env : List Entry} {E : Choice → Environm
   takes : one.entry.cell.value.has_argument ≡ is_some z.settled.type
   takes = one.entry.takes ∙ sym (z.settled.given ∙ ap is_some argument_there ∙ there_as_well (type_of b.item) (first_in k u 2))
 
+  token_is : name ≡ one.name
+  token_is = one_token (token_in u 0) name one.name named one.named
+
   name_is : name.name ≡ str_bytes y.name
-  name_is = one_name (token_in u 0) name one.name named one.named ∙ sym one.entry.name
+  name_is = ap (λ (t : Tok). t.name) token_is ∙ sym one.entry.name
+
+  placed : defined_at y.place ≡ in_text (place_of name)
+  placed = one.entry.placed ∙ ap (λ t. in_text (place_of t)) (sym token_is)
 
   on_types : OnlyTypes (sight b) (sight d)
   on_types = exception_types (sight d) at (own_types b at constants) (own_at b at constants) (exn_node b at constants) (exn_inside b at constants) (exn_closed b at constants) refl z.to.on z.settled.type z.to.denotes z.closes z.plain z.sound z.level (record { types = untyped.types; noted = still_noted goes; scopes = still_scoped goes })
 
   next_starts : StartsAfter at (sight d) G (y ∷ []) (named_entry ∷ []) z.numbers
   next_starts = outside_exception (sight d) at (own_types b at constants) (own_at b at constants) (exn_node b at constants) (exn_inside b at constants) (exn_closed b at constants) refl z.to.on z.settled.type z.to.denotes z.closes z.plain z.sound z.level (record { types = untyped.types; noted = still_noted goes; scopes = still_scoped goes })
-      y named_entry one.entry.cell one.entry.what one.entry.root takes name_is (sym (ap kind_of one.entry.kind)) refl
+      y named_entry one.entry.cell one.entry.what one.entry.root takes name_is (sym (ap kind_of one.entry.kind)) placed refl
 
   next_known : next_starts.outside.known ≡ (at.known && knows_option z.settled.type)
   unfolding next_starts
   next_known = exception_known (sight d) at (own_types b at constants) (own_at b at constants) (exn_node b at constants) (exn_inside b at constants) (exn_closed b at constants) refl z.to.on z.settled.type z.to.denotes z.closes z.plain z.sound z.level (record { types = untyped.types; noted = still_noted goes; scopes = still_scoped goes })
-      y named_entry one.entry.cell one.entry.what one.entry.root takes name_is (sym (ap kind_of one.entry.kind)) refl
+      y named_entry one.entry.cell one.entry.what one.entry.root takes name_is (sym (ap kind_of one.entry.kind)) placed refl
 
   -- where it takes no argument, all that is to be known of names is known after it
   still_known : IsKnownException at.known k u → next_starts.outside.known ≡ true
   still_known known = next_known ∙ and_both at.known (knows_option z.settled.type) known.0 (none_known z.settled.type (z.settled.given ∙ ap is_some (argument_there ∙ ap (option_map (type_of b.item)) known.1)))
 
-  -- and for its nodes the names in scope are recorded
-  nodes_scoped : first_in k u 2 ≡ None → (c : Context) → AllSeen (IsScoped (sight d) env c.env) (exception_asks c part)
-  nodes_scoped none c =
-      subst (λ o. AllSeen (IsScoped (sight d) env c.env) (tell part.node c ++ read_optional (record c { variables = parameters [] }) o)) (sym (argument_there ∙ ap (option_map (type_of b.item)) none))
-      (record { item = b.item; place = k; number = refl; at = one.scoped aloud; same = refl; untyped = refl }, tt)
+  -- and for each node that is treated in it the names in scope are recorded
+  nodes_scoped : (c : Context) → AllSeen (IsScoped (sight d) env c.env) (exception_asks c part)
+  nodes_scoped = (one.treats formed is_con aloud).sees
 
   -- the entries that it adds
   adds_one : (c : Context) → option_map (λ (a : TypeExpression). c.chosen.type_at a.node) part.argument ≡ z.settled.type → entries_of_exception c part ≡ named_entry ∷ []
@@ -136,7 +143,7 @@ module _ (b d : Parts) {G : Letters} {env : List Entry} {E : Choice → Environm
           carried = items_treated N carried;
           clear = λ known placed. none_doubtful;
           sees = λ known. treated_sees N b.item n refl here at carried (settled_sees at on_types (own_types b at constants) (own_at b at constants) [] z.settled.settled (λ c. exception_asks c part) (λ c. refl) z.settled.reports (ap is_aloud goes.telling) (ap fixed_of goes.constants)
-              (λ V fits. fits_declared (frame_declares b at constants) z.to.on.assigns z.closes V fits) N (nodes_scoped known.1));
+              (λ V fits. fits_declared (frame_declares b at constants) z.to.on.assigns z.closes V fits) N nodes_scoped);
           knows = still_known;
           owners = treated_owned N carried (owned part.argument refl);
           outside = next_starts.outside;
@@ -176,7 +183,7 @@ exception_added (Ok v) a b d env after n t declared noted rest goes item untyped
     let part : DeclaresPart b d env k x.operand.part b.constants.exn.0 item.entry = subst (λ o. DeclaresPartIf b d env o b.constants.exn.0 item.entry) x.there item.declares in
     let (y, one, enters) = one_there b d env k u b.constants.exn.0 item.entry x.name x.named (subst (λ p. DeclaresPart b d env k p b.constants.exn.0 item.entry) x.part part) in
     let closed = closed_bare (constructor_row (number_of b.item k) (parts_of b.item k u)) (one.closes formed x.is (only.aloud ∙ aloud) at_b.level (names_before b at_b constants_b []) (refl, refl) (item_frame b at_b constants_b) 0 at.older (starts b at_b constants_b) (inside_none b at_b constants_b) (noted_on at.older older goes) (exn_denotes b at_b constants_b)) in
-    let added = exception_is_done b d at_b constants_b k u x.name x.named formed (first_type_stands b.item k u 2 formed (ap (λ q. is_operand q 2) x.is)) (only.aloud ∙ aloud) y one closed.closed closed.bare untyped goes' n seen
+    let added = exception_is_done b d at_b constants_b k u x.name x.named formed x.is (first_type_stands b.item k u 2 formed (ap (λ q. is_operand q 2) x.is)) (only.aloud ∙ aloud) y one closed.closed closed.bare untyped goes' n seen
     (ap (λ i. (sight d).scopes i n) rest.item ∙ still_scoped goes' a.item n env (plain_scope a b n env aloud noted)) in
     subst (λ es. AddedIf (IsKnownException at.known k u) E (recorded_exception a.item n k u) seen no_names a d G es) (sym (is ∙ item.behind ∙ enters env))
     (item_added_between only (subst (λ i. AddedIf (IsKnownException at.known k u) E (recorded_exception i n k u) seen no_names b d G (y ∷ env)) rest.item added))

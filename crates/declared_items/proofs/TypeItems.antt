@@ -76,7 +76,7 @@ owned_all (l ∷ ls) declared = leaves_types declared (owned_all ls declared)
 -- Names stand for those of the definitions as far as types are found by them, whatever the declaration of the newest tells of its values.
 told_otherwise : {named : Declaration → Typ} {es : List Entry} (E : Environment) (o : Option Tok) (r s : rules.Declaration) → s.arity ≡ r.arity → type_of s ≡ type_of r → TypesAs named es (type_entry r o ++ E) → TypesAs named es (type_entry s o ++ E)
 told_otherwise E None r s arity type types = types
-told_otherwise E (Some t) r s arity type (newest (entry_as name kind (of_type what known)) rest) = newest (entry_as name kind (of_type what (arity ∙ known.0, type ∙ known.1))) rest
+told_otherwise E (Some t) r s arity type (newest (entry_as name kind place (of_type what known)) rest) = newest (entry_as name kind place (of_type what (arity ∙ known.0, type ∙ known.1))) rest
 
 -- A type of its own is declared between items, from b to d, by the declaration p with the number k, whose node is t; it is between before the state in which its entries are recorded.
 module _ (b d : Parts) {G : Letters} {env : List Entry} {E : Choice → Environment} (at : Outside as_declared (sight b) G env E) (constants : HasConstants b) (noted : AreNoted at.older b) (aloud : is_aloud b.telling ≡ true) (k : ℕ) (t : Tree) (node : IsOwnNode k t) (p : DeclarationPart)

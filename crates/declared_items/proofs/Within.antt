@@ -91,14 +91,15 @@ module _ {a b : Sight} {G : Letters} {E : Choice → Environment} (on : OnlyType
       fixed = fixed;
     }
 
-    pub further : (V : Types) (c : Context) → EntersItems E a G V c → judgements c.kept (others c) ≡ judged → (W : Types) × Fits b.nodes W × SameAt a.nodes V W → ContinuesItems others a b G (types_left n fixes ∷ []) judged V c
-    further V c e is (W, fits, before) = record {
+    pub further : (V : Types) (c : Context) → EntersItems E a G V c → judgements c.kept (others c) ≡ judged → AreFixed fixes c.chosen → (W : Types) × Fits b.nodes W × SameAt a.nodes V W → ContinuesItems others a b G (types_left n fixes ∷ []) judged V c
+    further V c e is decided (W, fits, before) = record {
       same = is;
       types = W;
       fits = fits;
       before = before;
       agrees = agrees_further on V W c e before;
       left_too = (tt, tt);
+      decided = (decided, tt);
     }
 
     -- What the item asks is carried, and leaves the types that are decided.
@@ -115,7 +116,7 @@ module _ {a b : Sight} {G : Letters} {E : Choice → Environment} (on : OnlyType
       sound = λ V c l. subst (λ cs. Meets AnySeen c.kept cs judged told) (same c) (settled.sound (into c) (later V c l.env (fits_loosely b.nodes V l.reads.fits) l.agrees) l.kept l.left_too.0.fixed);
       follows = λ V c l. subst (λ cs. Follows c.kept cs judged) (same c) (settled.follows (into c) (later V c l.env (fits_loosely b.nodes V l.reads.fits) l.agrees) l.left_too.0.fixed);
       complete = λ V c e h. elim (settled.complete (into c) (earlier V c e) (subst (AllHold c.kept) (sym (same c)) h)) [
-        | inl goes ↦ inl (further V c e (ap (judgements c.kept) (sym (same c)) ∙ goes.0) (goes_on V e.fits))
+        | inl goes ↦ inl (further V c e (ap (judgements c.kept) (sym (same c)) ∙ goes.0) goes.1 (goes_on V e.fits))
         | inr short ↦ inr (subst (λ cs. FallsShort (judgements c.kept cs) judged) (same c) short)
       ];
       first = λ k V c e h. subst (λ cs. Decides c judged (take k cs)) (same c) (settled.first k (into c) (earlier V c e) (subst (λ cs. AllHold c.kept (take k cs)) (sym (same c)) h));

@@ -80,7 +80,7 @@ module _ {R : ℕ → Scheme → Type 0} {D : Declaration → rules.Declaration 
   what_known d (of_module_type e h) k there = absurd (cc)
 
   entry_known : {x : Entry} {f : Named} (d : Declaration) → EntryAs R D X x f → kind_of x.kind ≡ type_kind → declared_in x.what ≡ Some d → (e : rules.Declaration) × D d e
-  entry_known d (entry_as n k w) is there = what_known d w (k ∙ is) there
+  entry_known d (entry_as n k p w) is there = what_known d w (k ∙ is) there
 
   pub found_known : {y : FoundAmong Entry} {z : FoundAmong Named} (x : Entry) (d : Declaration) → y ≡ an_entry x → kind_of x.kind ≡ type_kind → ComesTo R D X y z → declared_in x.what ≡ Some d → (e : rules.Declaration) × D d e
   found_known x d f is (to_entry {e = w} {f = g} h) there =

@@ -5,7 +5,6 @@ use Rattle.tree_model.specs.Trees.{Place}
 use Rattle.type_model.specs.Types.{Typ, Path}
 use Rattle.type_model.specs.Schemes.{Scheme}
 use Rattle.signature_model.specs.Declarations.{Name, Constructor, Label, Shape, Opaque, Variant, Labels, Declaration, type_of}
-use Rattle.signature_model.specs.Declarations as declarations
 use Rattle.signature_model.specs.Components.{same_name}
 use Rattle.signature_model.specs.Entries.{Environment, Entry, Kind, module_kind, Referent, a_value, a_constructor, an_exception, a_label, a_type, kind_of}
 use Rattle.signature_model.specs.Lookups.{FoundAmong, an_entry, a_hole, nothing, same_kind, found, found_in, ScopeOf, known, unknown_scope, no_scope, newest_by, is_named, scope_behind, scope_by, inside_referent, inside, through, lookup}
@@ -316,11 +315,11 @@ lookup_alike {E} {F} (m ∷ ms) k n h =
     subst (λ s. ComesAlike (lookup E (m ∷ ms) k n) (found_in (is_named k n) s)) (scope_alike m ms h) (comes_as_itself (lookup E (m ∷ ms) k n))
 
 -- scopes in which the same labels are found
-data ScopesAlike : ScopeOf Entry → ScopeOf Entry → Type 0 where
+pub data ScopesAlike : ScopeOf Entry → ScopeOf Entry → Type 0 where
   both_known : {E F : Environment} → NamesAlike E F → ScopesAlike (known E) (known F)
   one_scope : {s : ScopeOf Entry} → ScopesAlike s s
 
-scopes_alike : {E F : Environment} (path : List Name) → NamesAlike E F → ScopesAlike (scope_behind E path) (scope_behind F path)
+pub scopes_alike : {E F : Environment} (path : List Name) → NamesAlike E F → ScopesAlike (scope_behind E path) (scope_behind F path)
 scopes_alike [] h = both_known h
 scopes_alike {E} (m ∷ ms) h = subst (ScopesAlike (scope_behind E (m ∷ ms))) (scope_alike m ms h) one_scope
 
@@ -351,24 +350,24 @@ has_each_alike : (s t : Written → ScopeOf Entry) → ((l : Written) → Scopes
 has_each_alike s t h o [] = refl
 has_each_alike s t h o (l ∷ ls) = and_both (has_label label_entries o l.name (s l)) (has_each label_entries s o ls) (has_label label_entries o l.name (t l)) (has_each label_entries t o ls) (has_label_alike o l.name (h l)) (has_each_alike s t h o ls)
 
-belongs_alike : (s t : Written → ScopeOf Entry) → ((l : Written) → ScopesAlike (s l) (t l)) → (ls : List Written) (o : Option Path) → belongs_to label_entries s ls o ≡ belongs_to label_entries t ls o
+pub belongs_alike : (s t : Written → ScopeOf Entry) → ((l : Written) → ScopesAlike (s l) (t l)) → (ls : List Written) (o : Option Path) → belongs_to label_entries s ls o ≡ belongs_to label_entries t ls o
 belongs_alike s t h ls None = refl
 belongs_alike s t h ls (Some o) = has_each_alike s t h o ls
 
-each_scope_alike : (test : ScopeOf Entry → Bool) (s t : Written → ScopeOf Entry) → ((l : Written) → test (s l) ≡ test (t l)) → (ls : List Written) → each_scope test s ls ≡ each_scope test t ls
+pub each_scope_alike : (test : ScopeOf Entry → Bool) (s t : Written → ScopeOf Entry) → ((l : Written) → test (s l) ≡ test (t l)) → (ls : List Written) → each_scope test s ls ≡ each_scope test t ls
 each_scope_alike test s t h [] = refl
 each_scope_alike test s t h (l ∷ ls) = and_both (test (s l)) (each_scope test s ls) (test (t l)) (each_scope test t ls) (h l) (each_scope_alike test s t h ls)
 
-there_alike : {s t : ScopeOf Entry} → ScopesAlike s t → is_there s ≡ is_there t
+pub there_alike : {s t : ScopeOf Entry} → ScopesAlike s t → is_there s ≡ is_there t
 there_alike (both_known h) = refl
 there_alike one_scope = refl
 
-known_alike : {s t : ScopeOf Entry} → ScopesAlike s t → is_known s ≡ is_known t
+pub known_alike : {s t : ScopeOf Entry} → ScopesAlike s t → is_known s ≡ is_known t
 known_alike (both_known h) = refl
 known_alike one_scope = refl
 
 -- whether an entry is a label of this name that belongs to the record
-abbrev is_wanted : (Written → ScopeOf Entry) → List Written → Option Name → Entry → Bool
+abbrev pub is_wanted : (Written → ScopeOf Entry) → List Written → Option Name → Entry → Bool
 is_wanted s ls n e = has_name n e.name && belongs_to label_entries s ls (record_of_label e.stands_for)
 
 newest_label_alike : (s t : Written → ScopeOf Entry) → ((l : Written) → ScopesAlike (s l) (t l)) → (ls : List Written) (n : Option Name) {x y : ScopeOf Entry} → ScopesAlike x y →

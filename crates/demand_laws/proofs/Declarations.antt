@@ -1,19 +1,19 @@
 -- Declarations of types make the same demands, and declare the same but for types.
-use Rattle.std.proofs.Common.{◌≡◌, ◌∙◌, ℕ, Bool, true, false, List, [], ◌∷◌, ◌++◌, map, filter_map, reverse, length, Option, Some, None, option_map, refl, sym, ap, if◌then◌else◌}
+use Rattle.std.proofs.Common.{◌≡◌, ℕ, Bool, true, false, List, [], ◌∷◌, map, filter_map, reverse, length, Option, Some, None, option_map, refl, ap, if◌then◌else◌}
 use Rattle.std.proofs.Math.Path.{fun_ext}
 use Rattle.std.specs.List.{cons_option}
 use Rattle.token_model.specs.Kinds.{Tok}
 use Rattle.type_model.specs.Types.{Typ}
-use Rattle.signature_model.specs.Declarations.{Name, in_text, Definition, Own, Is, Constructor, Label, Shape, Opaque, Variant, Labels, Declaration, defined_type, type_of}
-use Rattle.signature_model.specs.Entries.{Environment, Entry, entry, a_type, a_constructor, a_label, an_exception, entries_of_shape}
+use Rattle.signature_model.specs.Declarations.{Name, in_text, Own, Is, Constructor, Label, Shape, Opaque, Variant, Labels, Declaration, defined_type, type_of}
+use Rattle.signature_model.specs.Entries.{Environment, entry, a_constructor, a_label, an_exception, entries_of_shape}
 use Rattle.signature_model.specs.Records.{origin_of}
-use Rattle.typing_model.specs.Demands.{site, Demand, differs, test, agrees, Condition}
-use Rattle.typing_model.specs.Contexts.{Context, Choice, parameters, under, type_at, ask}
+use Rattle.typing_model.specs.Demands.{site, differs, test, agrees, Condition}
+use Rattle.typing_model.specs.Contexts.{Context, parameters, under, type_at, ask}
 use Rattle.typing_model.specs.Parts.{TypeExpression, ConstructorPart, LabelPart, Told, constructors, labels, RightSide, another, own, DeclarationPart, place_of}
 use Rattle.typing_model.specs.Patterns.{ask_all}
 use Rattle.typing_model.specs.Declarations.{constructor_of, label_of, variant_of, shape_of, leads_to, renamed, names_itself, token_name, definition_of, shape_in, declaration_of, type_entry, entries_of_part, entries_of_group, names_of_types, names_of_tokens, new_tokens, names_asked, read_optional, constructors_read, labels_read, constructors_new, labels_new, shape_asks, told_of, reexport_asked, right_asks, declaration_asks, declarations_ask, cycles_asked, group_asks, exception_asks, entries_of_exception}
 use Rattle.typing_laws.proofs.Steady.{Each, no_one, one_and, IfThere, absent, there}
-use Rattle.demand_laws.proofs.Alike.{Same, alone, one, at_treated, behind, at_demand, along, BothThere, neither, both, Lists, no_pair, pair_and, ConstructorAlike, LabelAlike, ShapeAlike, opaque, variants, records, DeclarationAlike, ReferentAlike, two_exceptions, two_constructors, two_labels, two_types, NamesAlike, no_names, next, in_front, turned, Two, left, right}
+use Rattle.demand_laws.proofs.Alike.{Same, alone, one, at_treated, behind, along, BothThere, neither, both, Lists, no_pair, pair_and, ConstructorAlike, LabelAlike, ShapeAlike, opaque, variants, records, DeclarationAlike, two_exceptions, two_constructors, two_labels, two_types, NamesAlike, no_names, next, in_front, turned, Two, left, right}
 use Rattle.demand_laws.proofs.Types.{AlikeType}
 use Rattle.demand_laws.specs.Agreeing.{AgreeRight, AgreeOn}
 

@@ -350,8 +350,8 @@ fields_alike : (c : Two) (n : ℕ) {o r : Option Declaration} (fs : List Field) 
     Same (fields_ask (left c) n o fs names) (fields_ask (right c) n r fs names)
 fields_alike c n [] names a no_one = alone (λ k. refl)
 fields_alike c n {o} {r} (f ∷ fs) names a (one_and s each) =
-    behind (along (λ b. field_value_asks (left c) b f names (field_type (left c) n o f.label)) (λ b. field_value_asks (right c) b f names (field_type (right c) n r f.label)) (some_alike a)
-    (field_value_alike c (is_some o) f names (field_type (left c) n o f.label) (field_type (right c) n r f.label) (field_types c n f.label a) s)) (fields_alike c n fs (names ++ name_in f.label) a each)
+    behind (along (λ b. field_value_asks (left c) b f names (field_type (left c) n f.node o f.label)) (λ b. field_value_asks (right c) b f names (field_type (right c) n f.node r f.label)) (some_alike a)
+    (field_value_alike c (is_some o) f names (field_type (left c) n f.node o f.label) (field_type (right c) n f.node r f.label) (field_types c n f.node f.label a) s)) (fields_alike c n fs (names ++ name_in f.label) a each)
 
 record_silent : (c : Two) (n : ℕ) {o r : Option Declaration} → Both DeclarationAlike o r → Same (is_record (left c) n o) (is_record (right c) n r)
 record_silent c n nones = alone (λ k. refl)

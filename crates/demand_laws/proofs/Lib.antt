@@ -1,9 +1,11 @@
 pub mod Alike
+pub mod Values
 pub mod Types
 pub mod Patterns
 pub mod Declarations
 pub mod Bindings
 pub mod Expressions
 pub mod Rows
+pub mod Agreed
 pub mod Texts
 pub mod Bare

@@ -14,8 +14,8 @@ use Rattle.typing_model.specs.Parts.{Written, Pattern, TypeExpression, FieldPatt
 use Rattle.fault_model.specs.Refused.{refused_as}
 use Rattle.typing_model.specs.Names.{is_no_scope, lost_behind, names_of, entry_of, label_in, then_by, referent_of, found_by, Built, built_in, used_at}
 use Rattle.typing_model.specs.BuiltIns.{constant, constant_by, exn_type}
-use Rattle.typing_model.specs.Records.{labels_of, ask_once, field_type, ask_record, first_lost, first_token, declaration_found, name_in, find_label, labels_in}
-use Rattle.typing_model.specs.Patterns.{matched_all, matched_each, ask_all, over, pname, pconst, pneg, taken_by, with_built, built_by, constructor_alone, pcon, argument_has, of_one_type, applied_constructor, argument_type, papp, pparen, plist, pcons, ptuple, pas, find_bound, common_names, sides_differ, name_apart, sides_beside, por, each_has, first_type, behind_first, mentions_in_field, match_pun, match_field, match_fields, labels_of_fields, kept_record, precord}
+use Rattle.typing_model.specs.Records.{labels_of, ask_once, field_type, used_in_record, ask_record, first_lost, first_token, declaration_found, name_in, find_label, labels_in}
+use Rattle.typing_model.specs.Patterns.{matched_all, matched_each, ask_all, over, pname, pconst, pneg, with_built, built_by, constructor_alone, pcon, argument_has, of_one_type, applied_constructor, argument_type, papp, pparen, plist, pcons, ptuple, pas, find_bound, common_names, sides_differ, name_apart, sides_beside, por, each_has, first_type, behind_first, mentions_in_field, match_pun, match_field, match_fields, labels_of_fields, kept_record, precord}
 use Rattle.typing_laws.proofs.Bools.{no_yes}
 use Rattle.typing_laws.proofs.Steady.{Each, no_one, one_and, IfThere, absent, there}
 use Rattle.demand_laws.proofs.Alike.{Same, alone, one, at_treated, at_known, behind, at_demand, at_bound, along, BothThere, neither, both, Both, nones, somes, Lists, no_pair, pair_and, LabelAlike, ShapeAlike, opaque, variants, records, DeclarationAlike, ReferentAlike, one_thing, two_values, two_exceptions, two_constructors, two_labels, two_types, ComesAlike, at_entry, at_hole, at_nothing, Two, NamesAlike, left, right, scope_alike, lookup_alike, record_alike}
@@ -308,17 +308,17 @@ found_label n (pair_and {x = l} {y = m} {xs = ls} {ys = ms} a h) = by (same_name
     by true false e rest = absurd (no_yes (sym e))
     by false true e rest = absurd (no_yes e)
 
-pub field_types : (c : Two) (n : ℕ) {o r : Option Declaration} (p : Written) → Both DeclarationAlike o r → BothThere (field_type (left c) n o p) (field_type (right c) n r p)
-field_types c n p nones = neither
-field_types c n p (somes {x = d} {y = e} a) = by p.last refl
+pub field_types : (c : Two) (n m : ℕ) {o r : Option Declaration} (p : Written) → Both DeclarationAlike o r → BothThere (field_type (left c) n m o p) (field_type (right c) n m r p)
+field_types c n m p nones = neither
+field_types c n m p (somes {x = d} {y = e} a) = by p.last refl
   where
     of_label : (f g : Typ → Typ) {o r : Option Label} → Both LabelAlike o r → BothThere (option_map (λ l. f l.body) o) (option_map (λ l. g l.body) r)
     of_label f g nones = neither
     of_label f g (somes h) = both
 
-    by : (o : Option Tok) → p.last ≡ o → BothThere (field_type (left c) n (Some d) p) (field_type (right c) n (Some e) p)
+    by : (o : Option Tok) → p.last ≡ o → BothThere (field_type (left c) n m (Some d) p) (field_type (right c) n m (Some e) p)
     by None q = rw (q, field_type) neither
-    by (Some t) q = rw (q, field_type) (of_label (used_at (left c) n) (used_at (right c) n) (found_label t.name (labels_alike a.shape)))
+    by (Some t) q = rw (q, field_type) (of_label (λ t. used_in_record n m (type_of d) t (left c).chosen) (λ t. used_in_record n m (type_of e) t (right c).chosen) (found_label t.name (labels_alike a.shape)))
 
 pun_alike : (c : Two) (f : FieldPattern) (seen : List Name) (t u : Option Typ) → BothThere t u → Same (match_pun (left c) f seen t) (match_pun (right c) f seen u)
 pun_alike c f seen t u h = by f.label.last refl h
@@ -356,8 +356,8 @@ fields_alike : (c : Two) (n : ℕ) {o r : Option Declaration} (fs : List FieldPa
     Same (match_fields (left c) n o fs names seen) (match_fields (right c) n r fs names seen)
 fields_alike c n [] names seen a no_one = alone (λ k. refl)
 fields_alike c n {o} {r} (f ∷ fs) names seen a (one_and s each) =
-    behind (along (λ b. match_field (left c) n b f names seen (field_type (left c) n o f.label)) (λ b. match_field (right c) n b f names seen (field_type (right c) n r f.label)) (there_alike a)
-    (field_alike c n (is_there o) f names seen (field_type (left c) n o f.label) (field_type (right c) n r f.label) (field_types c n f.label a) s))
+    behind (along (λ b. match_field (left c) n b f names seen (field_type (left c) n f.node o f.label)) (λ b. match_field (right c) n b f names seen (field_type (right c) n f.node r f.label)) (there_alike a)
+    (field_alike c n (is_there o) f names seen (field_type (left c) n f.node o f.label) (field_type (right c) n f.node r f.label) (field_types c n f.node f.label a) s))
     (fields_alike c n fs (names ++ name_in f.label) (seen ++ mentions_in_field f) a each)
 
 -- the node has the type of a record, if it is found

@@ -16,10 +16,12 @@ use Rattle.typing_model.specs.Items.{inside_item, names_made, let_item, type_ite
 use Rattle.typing_model.specs.Modules.{item_row}
 use Rattle.typing_model.specs.Meanings.{binding_of, case_of, field_of, field_pattern_of, recorded_expression, recorded_pattern, recorded_type, recorded_item, node_child, leaf_child, children_of, child_of, tree_child, item_base, items_from, items_of}
 use Rattle.typing_model.specs.Typings.{outermost, conditions_of}
-use Rattle.typing_model.specs.Plain.{is_plain_row, has_no_modules, has_lets_alone, is_value_row, has_values_alone}
+use Rattle.typing_model.specs.Plain.{is_plain_row, has_no_modules, has_lets_alone, has_values_alone}
+use Rattle.typing_laws.specs.Reexports.{has_new_types}
+use Rattle.typing_laws.specs.Renaming.{AreRenamedChoices}
 use Rattle.typing_laws.proofs.Bools.{no_yes, and_cases}
 use Rattle.typing_laws.proofs.Steady.{Each, no_one, one_and, IfThere, absent, there}
-use Rattle.typing_laws.proofs.Settled.{lets_values, values_plain}
+use Rattle.typing_laws.proofs.Settled.{lets_values, values_new, new_plain}
 use Rattle.typing_laws.proofs.SteadyRows.{first_there}
 use Rattle.fault_model.specs.Refused.{refused_of}
 use Rattle.typing_conditions.specs.Judging.{judgements}
@@ -28,6 +30,7 @@ use Rattle.demand_laws.proofs.Alike as alike
 use Rattle.demand_laws.proofs.Types.{AlikeType, no_type_alike}
 use Rattle.demand_laws.proofs.Patterns.{AlikePattern, AlikeFieldPattern, no_pattern_alike}
 use Rattle.demand_laws.proofs.Declarations.{AlikeConstructor, AlikeDeclaration, group_alike, group_added, exception_alike, exception_added}
+use Rattle.demand_laws.proofs.Agreed.{new_agree, renamed_agree}
 use Rattle.demand_laws.specs.Agreeing.{AgreeOn, AgreeRow, AreAgreed}
 use Rattle.demand_laws.proofs.Bindings.{AlikeExpression, AlikeBinding, bindings_alike}
 use Rattle.demand_laws.proofs.Expressions.{AlikeCase, AlikeField, no_expression_alike}
@@ -194,25 +197,28 @@ plain_ask_alike env text e kept ch other agreed = judged_same (same_asked env te
 pub plain_refused_alike : (env : Environment) (text : List Tree) → has_no_modules text ≡ true → (kept : Site → Bool) (ch other : Choice) → AreAgreed ch other 1 text → refused_of kept (conditions_of env text kept ch) ≡ refused_of kept (conditions_of env text kept other)
 plain_refused_alike env text e kept ch other agreed = refused_same (same_asked env text e kept ch other agreed) kept
 
--- A text of `let`, exceptions and `;;` re-exports nothing.
-row_agrees : (ch other : Choice) (r : Row) (cs : List Child) → is_value_row r ≡ true → AgreeRow ch other r cs
-row_agrees ch other let_row cs e = tt
-row_agrees ch other exception_row cs e = tt
-row_agrees ch other break_row cs e = tt
-row_agrees ch other _ cs e = absurd (no_yes e)
+-- The types of choices that are renamings of one another, as principal ones are, have the same origins.
+pub renamed_ask_alike : (env : Environment) (text : List Tree) → has_no_modules text ≡ true → (kept : Site → Bool) (ch other : Choice) → AreRenamedChoices ch other → judgements kept (conditions_of env text kept ch) ≡ judgements kept (conditions_of env text kept other)
+renamed_ask_alike env text e kept ch other r = plain_ask_alike env text e kept ch other (renamed_agree r 1 text)
 
-values_agree : (ch other : Choice) (i : ℕ) (ts : List Tree) → has_values_alone ts ≡ true → AreAgreed ch other i ts
-values_agree ch other i [] e = tt
-values_agree ch other i (node r x ps ∷ ts) e =
-    let (first, others) = and_cases (is_value_row r) (has_values_alone ts) e in (row_agrees ch other r (children_of (item_base i + 1) r ps) first, values_agree ch other (i + 1) ts others)
+pub renamed_refused_alike : (env : Environment) (text : List Tree) → has_no_modules text ≡ true → (kept : Site → Bool) (ch other : Choice) → AreRenamedChoices ch other → refused_of kept (conditions_of env text kept ch) ≡ refused_of kept (conditions_of env text kept other)
+renamed_refused_alike env text e kept ch other r = plain_refused_alike env text e kept ch other (renamed_agree r 1 text)
 
+-- In a text without re-exports any types may be chosen.
+pub new_ask_alike : (env : Environment) (text : List Tree) → has_new_types text ≡ true → (kept : Site → Bool) (ch other : Choice) → judgements kept (conditions_of env text kept ch) ≡ judgements kept (conditions_of env text kept other)
+new_ask_alike env text e kept ch other = plain_ask_alike env text (new_plain text e) kept ch other (new_agree ch other 1 text e)
+
+pub new_refused_alike : (env : Environment) (text : List Tree) → has_new_types text ≡ true → (kept : Site → Bool) (ch other : Choice) → refused_of kept (conditions_of env text kept ch) ≡ refused_of kept (conditions_of env text kept other)
+new_refused_alike env text e kept ch other = plain_refused_alike env text (new_plain text e) kept ch other (new_agree ch other 1 text e)
+
+-- A text of `let`, exceptions and `;;` is such a text,
 pub values_ask_alike : (env : Environment) (text : List Tree) → has_values_alone text ≡ true → (kept : Site → Bool) (ch other : Choice) → judgements kept (conditions_of env text kept ch) ≡ judgements kept (conditions_of env text kept other)
-values_ask_alike env text e kept ch other = plain_ask_alike env text (values_plain text e) kept ch other (values_agree ch other 1 text e)
+values_ask_alike env text e = new_ask_alike env text (values_new text e)
 
 pub values_refused_alike : (env : Environment) (text : List Tree) → has_values_alone text ≡ true → (kept : Site → Bool) (ch other : Choice) → refused_of kept (conditions_of env text kept ch) ≡ refused_of kept (conditions_of env text kept other)
-values_refused_alike env text e kept ch other = plain_refused_alike env text (values_plain text e) kept ch other (values_agree ch other 1 text e)
+values_refused_alike env text e = new_refused_alike env text (values_new text e)
 
--- A text of `let` and `;;` is such a text.
+-- and so is one of `let` and `;;`.
 pub asks_alike : (env : Environment) (text : List Tree) → has_lets_alone text ≡ true → (kept : Site → Bool) (ch other : Choice) → judgements kept (conditions_of env text kept ch) ≡ judgements kept (conditions_of env text kept other)
 asks_alike env text e = values_ask_alike env text (lets_values text e)
 

@@ -10,7 +10,7 @@ use Rattle.typing_model.specs.Demands.{type_word}
 use Rattle.typing_model.specs.Demands.{site, test, arity}
 use Rattle.typing_model.specs.Contexts.{Variables, in_item, parameters, unresolved_in}
 use Rattle.typing_model.specs.Parts.{Written, TypeExpression, no_type_at, place_of}
-use Rattle.typing_model.specs.Names.{names_of, then_by, referent_of, found_by, declaration_in}
+use Rattle.typing_model.specs.Names.{names_of, then_by, referent_of, declaration_in}
 use Rattle.typing_model.specs.TypeExpressions.{index_from, variable_asks, tvar, read_all, declared_type, constructor_asks, tcon, tapp, in_parentheses, equal_of_one, tparen, ttuple, tarrow}
 use Rattle.fault_model.specs.Refused.{refused_as}
 use Rattle.typing_laws.proofs.Steady.{Each, no_one, one_and}

@@ -2,6 +2,8 @@
 #![tactic(auto, using(typing_state::proofs::Going::goes_trans, typing_state::proofs::Going::goes_refl), unfolding(syntax_tree::specs::Names::row_of))]
 
 ghost use Rattle.std.specs.Prelude.{◌≡◌, ◌==◌, ◌&&◌, Some, IfOk, OnOk};
+ghost use Rattle.signature_model.specs.Declarations.{in_text};
+ghost use Rattle.typing_model.specs.Parts.{place_of};
 ghost use Rattle.operand_laws.specs.Operands.{expression_of};
 ghost use Rattle.typing_conditions.specs.Surroundings.{IsEntry};
 ghost use Rattle.typing_rows.specs.Asked.{wants_bool};
@@ -14,7 +16,7 @@ ghost use Rattle.row_parts.specs.Numbered.{operand_view, token_in};
 ghost use Rattle.typing_state.specs.Goes.{Goes};
 
 use crate::values::is_false;
-use env_table::{Entry, Kind, What};
+use env_table::{Entry, Kind, Place, What};
 use owned_lists::owned;
 use row_parts::{Operand, token};
 use std::rc::Rc;
@@ -56,12 +58,12 @@ fn scope_of_name(at: &Parts, name: &Token, env: &Env) -> Result<Scope, NoMemory>
 
 /// The entry of the variable of a `for`, an int.
 fn loop_entry(at: &Parts, name: &Token) -> Result<Rc<Entry>, NoMemory>
-    ensures { IfOk result (λ e. IsEntry e.value (tok_of name.now).name at.now.constants.int) }
+    ensures { IfOk result (λ e. IsEntry e.value (tok_of name.now).name (in_text (place_of (tok_of name.now))) at.now.constants.int) }
 {
     let entry = Entry {
         name: name.name.share()?,
         kind: Kind::Value,
-        place: at.place(name.span),
+        place: Place::Buffer(name.span),
         what: What::Scheme(at.constants.int),
     };
     owned(at.alloc(), entry)

@@ -19,7 +19,7 @@ use Rattle.typed_index.specs.Seen.{seen_at}
 use Rattle.typing_state.specs.declared.built_ins.BuiltIn.{BuiltIn}
 use Rattle.typing_state.specs.declared.parts.Parts.{Parts}
 use Rattle.typing_state.specs.BuiltIns.{number_of}
-use Rattle.typing_conditions.specs.Environments.{of_type, entry_as, no_names, newest}
+use Rattle.typing_conditions.specs.Environments.{defined_at, of_type, entry_as, no_names, newest}
 use Rattle.typing_conditions.specs.Declared.{UnknownApart, RootAs, OriginAs, DeclaredAs, with_parameters, tell_nothing}
 use Rattle.typing_conditions.specs.Sights.{Letters}
 use Rattle.typing_conditions.proofs.Roots.{named_bound}
@@ -98,7 +98,7 @@ declares_built_in h roots names apart older of = record {
   older = older;
   unknown = names_of_before (closed h.declared) names older of;
   are_bound = root_bound (root h.declared roots names);
-  entries = newest (entry_as (sym h.name) (sym (ap kind_of h.kind)) (of_type h.is (built_in_as h.declared roots names))) no_names;
+  entries = newest (entry_as (sym h.name) (sym (ap kind_of h.kind)) (ap defined_at h.place) (of_type h.is (built_in_as h.declared roots names))) no_names;
   plain = false;
   keeps = λ e. absurd (no_yes e);
 }

@@ -20,7 +20,7 @@ use Rattle.env_table.specs.declared.entries.Entry.{Entry}
 use Rattle.env_table.specs.declared.entries.What.TheVariants as what
 use Rattle.env_table.specs.Views.{kind_of}
 use Rattle.typing_conditions.specs.Locals.{IsPlain, IsOwn, ClosesAll}
-use Rattle.typing_conditions.specs.Environments.{WhatAs, EnvAs, of_exception, entry_as, no_names, newest}
+use Rattle.typing_conditions.specs.Environments.{defined_at, WhatAs, EnvAs, of_exception, entry_as, no_names, newest}
 use Rattle.typing_conditions.specs.Surroundings.{HasOwnLabels}
 use Rattle.typing_conditions.specs.Declared.{NoneUnknown, RootAs, building, DeclaredAs, ExceptionAs}
 use Rattle.typing_conditions.specs.Sights.{Sight, Letters}
@@ -51,11 +51,11 @@ module _ {a b : Sight} (c : Sight) {G : Letters} {env : List Entry} {E : Choice 
   root_as : RootAs c.nodes (r ∷ at.roots) N 0 r (building exn_type argument)
   root_as = whole_root c at I own n n_inside none from x (r ∷ []) (one_denotes x (building exn_type argument) denotes) closes plain sound level types (zero, refl) denotes
 
-  module _ (e : Entry) (f : Named) (cell : Rc Constructor Global) (is : e.what ≡ what.Exception cell) (root : cell.value.root.0 ≡ r) (takes : cell.value.has_argument ≡ is_some argument) (name : f.name ≡ str_bytes e.name) (kind : kind_named f.stands_for ≡ kind_of e.kind) (stands : f.stands_for ≡ an_exception argument) where
+  module _ (e : Entry) (f : Named) (cell : Rc Constructor Global) (is : e.what ≡ what.Exception cell) (root : cell.value.root.0 ≡ r) (takes : cell.value.has_argument ≡ is_some argument) (name : f.name ≡ str_bytes e.name) (kind : kind_named f.stands_for ≡ kind_of e.kind) (placed : defined_at e.place ≡ f.place) (stands : f.stands_for ≡ an_exception argument) where
     -- its entry, however what is declared and specified stands for that of the definitions
     entry_stands : (S : ℕ → Scheme → Type 0) (D : Declaration → rules.Declaration → Type 0) → EnvAs S D (ExceptionAs c.nodes (r ∷ at.roots) N) (e ∷ []) (f ∷ [])
     entry_stands S D =
-        newest (entry_as name kind (subst (WhatAs S D (ExceptionAs c.nodes (r ∷ at.roots) N) e.what) (sym stands)
+        newest (entry_as name kind placed (subst (WhatAs S D (ExceptionAs c.nodes (r ∷ at.roots) N) e.what) (sym stands)
         (of_exception is (record { takes = takes; root = subst (λ m. RootAs c.nodes (r ∷ at.roots) N 0 m (building exn_type argument)) (sym root) root_as })))) no_names
 
     keeps : knows_option argument ≡ true → AddsKnown c.nodes (r ∷ at.roots) at.names N (e ∷ []) (f ∷ [])

@@ -11,5 +11,4 @@ pub mod Whole
 pub mod Exceptions
 pub mod Types
 pub mod Values
-pub mod Seen
 pub mod SettledItems

@@ -33,13 +33,14 @@ use Rattle.typing_conditions.proofs.Own.{own_of}
 use Rattle.typing_steps.specs.Typing.{as_declared}
 use Rattle.typing_rows.specs.Around.{TypeAs, TypesAs}
 use Rattle.typing_rows.specs.Settled.{Fixes, AreFixed, IsBehind, among, Settled}
+use Rattle.typing_rows.specs.Treating.{IsScoped}
+use Rattle.typing_rows.proofs.Treating.{seen_as}
 use Rattle.typing_rows.proofs.Surrounding.{known_by, declared_known}
 use Rattle.binding_rows.specs.ItemRows.{AreDeclared, AreOwned, none_owned, leaves_none, leaves_types}
 use Rattle.binding_rows.specs.Outside.{AgreesOutside, InEachMet, Outside, Left, EntersItems, ContinuesItems, StaysOutside, ItemsCarried, SeesItems}
 use Rattle.binding_rows.proofs.ItemOrders.{outside_sees}
-use Rattle.first_laws.specs.Declaring.{OnlyTypes, IsScoped}
+use Rattle.first_laws.specs.Declaring.{OnlyTypes}
 use Rattle.first_laws.proofs.Declared.{agrees_before}
-use Rattle.first_laws.proofs.Seen.{seen_as}
 
 -- what an item leaves that declares something: the types that are decided
 abbrev pub types_left : ℕ → Fixes → Left
@@ -91,8 +92,8 @@ module _ {a b : Sight} {G : Letters} {env : List Entry} {E : Choice → Environm
       fixed = fixed;
     }
 
-    pub further : (V : Types) (c : Context) → EntersItems E a G V c → judgements c.kept (others c) ≡ judged → (W : Types) × Fits b.nodes W × SameAt a.nodes V W → ContinuesItems others a b G (types_left n fixes ∷ []) judged V c
-    further V c e is (W, fits, before) = record {
+    pub further : (V : Types) (c : Context) → EntersItems E a G V c → judgements c.kept (others c) ≡ judged → AreFixed fixes c.chosen → (W : Types) × Fits b.nodes W × SameAt a.nodes V W → ContinuesItems others a b G (types_left n fixes ∷ []) judged V c
+    further V c e is decided (W, fits, before) = record {
       same = is;
       types = W;
       fits = fits;
@@ -103,6 +104,7 @@ module _ {a b : Sight} {G : Letters} {env : List Entry} {E : Choice → Environm
         given = given_same G a.nodes V W c.chosen e.inside.given before e.agrees.given;
       };
       left_too = (tt, tt);
+      decided = (decided, tt);
     }
 
     -- What the item asks is carried, and leaves the types that are decided.
@@ -119,7 +121,7 @@ module _ {a b : Sight} {G : Letters} {env : List Entry} {E : Choice → Environm
       sound = λ V c l. subst (λ cs. Meets AnySeen c.kept cs judged told) (same c) (settled.sound (into c) (stands_behind V c l.env (loose_before V (fits_loosely b.nodes V l.reads.fits)) (agrees_before on l.agrees)) l.kept l.left_too.0.fixed);
       follows = λ V c l. subst (λ cs. Follows c.kept cs judged) (same c) (settled.follows (into c) (stands_behind V c l.env (loose_before V (fits_loosely b.nodes V l.reads.fits)) (agrees_before on l.agrees)) l.left_too.0.fixed);
       complete = λ V c e h. elim (settled.complete (into c) (stands_behind V c e.env (fits_loosely a.nodes V e.fits) e.agrees) (subst (AllHold c.kept) (sym (same c)) h)) [
-        | inl goes ↦ inl (further V c e (ap (judgements c.kept) (sym (same c)) ∙ goes.0) (goes_on V e.fits))
+        | inl goes ↦ inl (further V c e (ap (judgements c.kept) (sym (same c)) ∙ goes.0) goes.1 (goes_on V e.fits))
         | inr short ↦ inr (subst (λ cs. FallsShort (judgements c.kept cs) judged) (same c) short)
       ];
       first = λ k V c e h. subst (λ cs. Decides c judged (take k cs)) (same c) (settled.first k (into c) (stands_behind V c e.env (fits_loosely a.nodes V e.fits) e.agrees) (subst (λ cs. AllHold c.kept (take k cs)) (sym (same c)) h));

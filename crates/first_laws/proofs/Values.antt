@@ -15,7 +15,7 @@ use Rattle.env_table.specs.declared.entries.Entry.{Entry}
 use Rattle.env_table.specs.declared.entries.What.TheVariants as what
 use Rattle.env_table.specs.Views.{kind_of}
 use Rattle.typing_conditions.specs.Locals.{IsPlain, IsOwn, ClosesAll}
-use Rattle.typing_conditions.specs.Environments.{WhatAs, of_value, entry_as, no_names, newest}
+use Rattle.typing_conditions.specs.Environments.{defined_at, WhatAs, of_value, entry_as, no_names, newest}
 use Rattle.typing_conditions.specs.Declared.{RootAs, DeclaredAs, ExceptionAs}
 use Rattle.typing_conditions.specs.Sights.{Sight, Letters}
 use Rattle.typing_steps.specs.Typing.{as_declared}
@@ -40,9 +40,9 @@ module _ {a b : Sight} (c : Sight) {G : Letters} {env : List Entry} {E : Choice 
   root_as = whole_root c at I own n n_inside none from x (r ∷ []) (one_denotes x t denotes) closes plain sound level types (zero, refl) denotes
 
   -- The next item starts among the names of before and that of the value.
-  pub outside_value : (e : Entry) (f : Named) (cell : NodeRef) → e.what ≡ what.Scheme cell → cell.0 ≡ r → f.name ≡ str_bytes e.name → kind_named f.stands_for ≡ kind_of e.kind → f.stands_for ≡ a_value (all_bound t) → StartsAfter at c G (e ∷ []) (f ∷ []) U
-  outside_value e f cell is root name kind stands =
+  pub outside_value : (e : Entry) (f : Named) (cell : NodeRef) → e.what ≡ what.Scheme cell → cell.0 ≡ r → f.name ≡ str_bytes e.name → kind_named f.stands_for ≡ kind_of e.kind → defined_at e.place ≡ f.place → f.stands_for ≡ a_value (all_bound t) → StartsAfter at c G (e ∷ []) (f ∷ []) U
+  outside_value e f cell is root name kind placed stands =
       outside_whole c at I own n n_inside none from x (r ∷ []) (one_denotes x t denotes) closes plain sound level types (e ∷ []) (f ∷ [])
-      (newest (entry_as name kind (subst (WhatAs (SpecifiedAs c.nodes (r ∷ at.roots) N) (DeclaredAs c.nodes (r ∷ at.roots) N) (ExceptionAs c.nodes (r ∷ at.roots) N) e.what) (sym stands)
+      (newest (entry_as name kind placed (subst (WhatAs (SpecifiedAs c.nodes (r ∷ at.roots) N) (DeclaredAs c.nodes (r ∷ at.roots) N) (ExceptionAs c.nodes (r ∷ at.roots) N) e.what) (sym stands)
       (of_value is (record { arity = arity; type = t; scheme = refl; known = known; root = subst (λ m. RootAs c.nodes (r ∷ at.roots) N arity m t) (sym root) root_as })))) no_names)
       false (λ e. absurd (no_yes e))

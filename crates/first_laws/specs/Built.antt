@@ -16,6 +16,7 @@ use Rattle.level_unify.specs.Generalising.{Generalised}
 use Rattle.env_table.specs.declared.entries.Declaration.{Declaration}
 use Rattle.env_table.specs.declared.entries.Entry.{Entry}
 use Rattle.env_table.specs.declared.entries.Kind.TheVariants as kind
+use Rattle.env_table.specs.declared.entries.Place.TheVariants as place
 use Rattle.env_table.specs.declared.entries.Shape.TheVariants as shape
 use Rattle.env_table.specs.declared.entries.What.TheVariants as what
 use Rattle.typing_state.specs.declared.built_ins.BuiltIn.{BuiltIn}
@@ -61,6 +62,7 @@ pub record DeclaresBuiltIn (a b : Parts) (which : BuiltIn) (d : Declaration) : T
 pub record EntersBuiltIn (a b : Parts) (which : BuiltIn) (e : Entry) : Type 0 where
   pub name : str_bytes e.name ≡ name_of which
   pub kind : e.kind ≡ kind.TypeName
+  pub place : e.place ≡ place.BuiltIn (number_of which)
   pub declaration : Rc Declaration Global
   pub is : e.what ≡ what.Type declaration
   pub declared : DeclaresBuiltIn a b which declaration.value

@@ -1,5 +1,5 @@
 -- What is declared from one state between items to a later one: types with their constructors and labels, exceptions, and values that are specified.
-use Rattle.std.specs.Prelude.{◌≡◌, ℕ, ◌<◌, Bool, true, false, List, ◌++◌, length, slice_get, Some}
+use Rattle.std.specs.Prelude.{◌≡◌, ℕ, ◌<◌, Bool, true, List, ◌++◌, length, slice_get, Some}
 use Rattle.type_model.specs.Types.{Typ}
 use Rattle.type_model.specs.Schemes.{Scheme}
 use Rattle.signature_model.specs.Entries.{Environment}
@@ -13,7 +13,7 @@ use Rattle.typing_conditions.specs.Locals.{IsOwn, stands_in_any, Refines}
 use Rattle.typing_conditions.specs.Environments.{EnvAs}
 use Rattle.typing_conditions.specs.Declared.{UnknownApart, NoneUnknown, RootAs, DeclaredAs, ExceptionAs}
 use Rattle.typing_conditions.specs.Surroundings.{HasOwnLabels}
-use Rattle.typing_conditions.specs.Sights.{AreScopesIn, Sight, Letters, number_in}
+use Rattle.typing_conditions.specs.Sights.{AreScopesIn, Sight, Letters}
 use Rattle.typing_steps.specs.Typing.{as_declared}
 use Rattle.binding_rows.specs.Outside.{AreOf, Outside}
 
@@ -84,12 +84,3 @@ pub record StartsAfter {a : Sight} {G : Letters} {env : List Entry} {E : Choice 
   pub outside : Outside as_declared c H (more ++ env) (λ ch. F ++ E ch)
   pub older : outside.older ≡ U
   pub grows : Grows at outside more F
-
--- For a node without a type the names `env` in scope are recorded, where it is treated among those of the environment E.
-pub record IsScoped (b : Sight) (env : List Entry) (E : Environment) (n : ℕ) (F : Environment) (is_typed : Bool) : Type 0 where
-  pub item : ℕ
-  pub place : ℕ
-  pub number : n ≡ number_in item place
-  pub at : b.scopes item place ≡ Some env
-  pub same : F ≡ E
-  pub untyped : is_typed ≡ false

@@ -3,7 +3,7 @@
 //! Above, `unify` is seen by `Unified` and `Clashes`: the readings, levels and scopes after it are exactly those that give both nodes
 //! one type, or it tells why no reading does and leaves the store as it was. `generalise` is seen by `Generalised`, `instantiate` by
 //! `Instantiated` and `freeze` by `Frozen`: the copy has exactly the instances at each reading, and no node of before changes. `reached`
-//! lists the roots that stand in a node.
+//! lists the roots that stand in a node, and `reached_beyond` those that were not listed yet.
 #![tactic(auto)]
 
 mod copies;
@@ -19,4 +19,4 @@ mod walk;
 pub use fault::{Clash, ClashKind, UnifyFault};
 pub use schemes::{freeze, generalise, instantiate};
 pub use unifying::unify;
-pub use walk::reached;
+pub use walk::{reached, reached_beyond};

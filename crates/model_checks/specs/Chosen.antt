@@ -1,8 +1,12 @@
 -- Types for the nodes of some texts.
-use Rattle.std.specs.Prelude.{ℕ, ◌==◌, List, [], ◌∷◌, if◌then◌else◌}
+use Rattle.std.specs.Prelude.{ℕ, ◌==◌, false, List, [], ◌∷◌, codes, Some, if◌then◌else◌}
+use Rattle.token_model.specs.Kinds.{lower}
 use Rattle.type_model.specs.Types.{Typ, Var, Arrow, Tuple, Con, Nil, Cons}
+use Rattle.signature_model.specs.Declarations.{Name, Own, Labels, Declaration, built_in, unknown}
 use Rattle.typing_model.specs.BuiltIns.{int_type, bool_type, string_type, list_type}
 use Rattle.typing_model.specs.Contexts.{Choice}
+use Rattle.typing_model.specs.Parts.{Written}
+use Rattle.model_checks.specs.Texts.{tok}
 use Rattle.model_checks.specs.Typings.{first, second, choice_of}
 use Rattle.model_checks.specs.Scopes.{ref_type}
 use Rattle.model_checks.specs.Open.{of_node, of_letter}
@@ -32,6 +36,22 @@ record_types = (first 5, int_type) ∷ (second 2, Con (first 1 ∷ []) Nil) ∷ 
 -- with letters that no row has
 abbrev pub record_choice : Choice
 record_choice = choice_of record_types (λ n k. Var 0)
+
+-- type t = { a : u; b : u }, where u is an unknown type
+abbrev pub two_of_unknown : Declaration
+two_of_unknown = record {
+  arity = 0;
+  definition = Own (1 ∷ []);
+  shape = Labels (record { name = codes "a"; place = built_in 0; is_mutable = false; body = unknown (2 ∷ []) } ∷ record { name = codes "b"; place = built_in 0; is_mutable = false; body = unknown (2 ∷ []) } ∷ []);
+}
+
+-- a label by its name alone
+abbrev pub label_alone : Name → Written
+label_alone n = record { qualifiers = []; last = Some (tok lower 0 1 n) }
+
+-- an int for the unknown type at the node 2, and a string at any other
+abbrev pub apart_choice : Choice
+apart_choice = record (choice_of [] (λ n k. Var 0)) { filled = λ n o. if n == 2 then int_type else string_type }
 
 -- let f = let g = fun x -> x in (g 1, g "a"): f, the whole, g, the function, x in its body; the pair in parentheses and without; the two applications, their heads and their arguments
 abbrev pub pair_type : Typ

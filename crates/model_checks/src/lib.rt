@@ -52,5 +52,5 @@ pub use signatures::{
 pub use typings::{
     a_later_type_is_refused, a_record_has_its_type, a_reference_is_weak,
     an_inner_binding_is_generalised, branches_differ, identity_is_principal,
-    self_application_has_no_typing,
+    self_application_has_no_typing, two_labels_choose_apart,
 };

@@ -1,17 +1,18 @@
 //! Typings of small texts, and texts that have none.
 
-ghost use Rattle.std.specs.Prelude.{◌≡◌, true, false, List, [], ◌∷◌, codes};
+ghost use Rattle.std.specs.Prelude.{◌≡◌, true, false, List, [], ◌∷◌, codes, Some};
 ghost use Rattle.type_model.specs.Types.{Var, Arrow};
-ghost use Rattle.typing_model.specs.BuiltIns.{built_in_names};
+ghost use Rattle.typing_model.specs.BuiltIns.{built_in_names, int_type, string_type};
 ghost use Rattle.signature_model.specs.Entries.{free_in};
 ghost use Rattle.typing_model.specs.Items.{behind_items};
 ghost use Rattle.typing_model.specs.Meanings.{items_of};
+ghost use Rattle.typing_model.specs.Records.{field_type};
 ghost use Rattle.typing_model.specs.Typings.{Typing, IsPrincipal, HasTyping, outermost};
 ghost use Rattle.model_checks.specs.Texts.{parsed, identity, branches, self_application, reference, whole_record, used_twice, later_type};
 ghost use Rattle.model_checks.specs.Asked.{all_kept};
 ghost use Rattle.model_checks.specs.Typings.{first, types_from};
 ghost use Rattle.model_checks.specs.Scopes.{with_ref, with_assignment};
-ghost use Rattle.model_checks.specs.Chosen.{reference_types, reference_choice, identity_types, identity_choice, record_types, inner_types};
+ghost use Rattle.model_checks.specs.Chosen.{reference_types, reference_choice, identity_types, identity_choice, record_types, inner_types, two_of_unknown, label_alone, apart_choice};
 
 /// let id x = x: 'a -> 'a is a typing, and each typing is an instance of it.
 pub fn identity_is_principal()
@@ -38,6 +39,12 @@ pub fn a_reference_is_weak()
 /// type t = { a : int } let r = { a = 1 }: r has the type that is made at the declaration.
 pub fn a_record_has_its_type()
     ensures { Typing built_in_names (parsed whole_record) all_kept (types_from record_types) }
+{}
+
+/// `{ a = 1; b = "s" }` of a type { a : u; b : u } whose u is an unknown type: the fields, at nodes of their own, may have two types.
+pub fn two_labels_choose_apart()
+    ensures label_a { field_type (outermost [] all_kept apart_choice) 1 2 (Some two_of_unknown) (label_alone (codes "a")) ≡ Some int_type }
+    ensures label_b { field_type (outermost [] all_kept apart_choice) 1 4 (Some two_of_unknown) (label_alone (codes "b")) ≡ Some string_type }
 {}
 
 /// let f = let g = fun x -> x in (g 1, g "a"): g is used at two types.

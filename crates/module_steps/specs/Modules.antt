@@ -12,6 +12,7 @@ use Rattle.env_table.specs.declared.entries.Entry.{Entry}
 use Rattle.env_table.specs.declared.entries.Sig.{Sig, out-Sig}
 use Rattle.env_table.specs.declared.entries.Sig.TheOpen.{Sig-F, What-F}
 use Rattle.env_table.specs.declared.entries.Kind.TheVariants as kind
+use Rattle.env_table.specs.declared.entries.Place.TheVariants as place
 use Rattle.env_table.specs.declared.entries.Template.{Template}
 use Rattle.env_table.specs.declared.faults.FaultKind.{FaultKind}
 use Rattle.env_table.specs.declared.faults.FaultKind.TheVariants as fault
@@ -143,6 +144,7 @@ opened_is (What-F.ModuleType t) sig = ⊥
 pub record IsModule (e : Entry) (t : Token) (s : Sig) : Type 0 where
   pub name : str_bytes e.name ≡ str_bytes t.name
   pub kind : e.kind ≡ kind.Module
+  pub place : e.place ≡ place.Buffer t.span
   pub sig : opened_is (out-What e.what) s
 
 -- a parameter behind an environment: its name, if it has one, is a module in front of it

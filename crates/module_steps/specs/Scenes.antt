@@ -11,6 +11,7 @@ use Rattle.signature_model.specs.Lookups.{same_kind}
 use Rattle.syntax_tree.specs.declared.Token.{Token}
 use Rattle.env_table.specs.declared.entries.Kind.{Kind}
 use Rattle.env_table.specs.declared.entries.Kind.TheVariants as kind
+use Rattle.env_table.specs.declared.entries.Place.TheVariants as place
 use Rattle.env_table.specs.declared.entries.What.{What}
 use Rattle.env_table.specs.declared.entries.Entry.{Entry}
 use Rattle.env_table.specs.declared.faults.Fault.{Fault}
@@ -86,10 +87,11 @@ abbrev pub AsksNew : Option Token → Kind → (old new : Scene) → (at at' : P
 AsksNew None k old new at at' = (new ≡ old) × (at' ≡ at)
 AsksNew (Some t) k old new at at' = ToldTwice at.telling (faults_of at) (faults_of at') t.span (told_again (has_name old k (str_bytes t.name)) (str_bytes t.name)) × NamesOne old new k (str_bytes t.name)
 
--- an entry of this name and kind, for this
+-- an entry of this name and kind, defined at this token, for this
 pub record IsEntry (e : Entry) (t : Token) (k : Kind) (w : What) : Type 0 where
   pub name : str_bytes e.name ≡ str_bytes t.name
   pub kind : e.kind ≡ k
+  pub place : e.place ≡ place.Buffer t.span
   pub what : e.what ≡ w
 
 -- these are recorded for a node in an environment

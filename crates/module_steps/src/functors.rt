@@ -7,7 +7,7 @@ ghost use Rattle.module_steps.specs.Modules.{templates_of, IsFunctorOver, IsFunc
 
 use crate::closing::ask_closed;
 use crate::made::Made;
-use env_table::{Entry, Kind, Sig, Template, What};
+use env_table::{Entry, Kind, Place, Sig, Template, What};
 use owned_lists::{owned, push, shared};
 use sig_template::made_at;
 use std::rc::Rc;
@@ -58,7 +58,7 @@ fn taken_named(
     let entry = Entry {
         name: name.name.share()?,
         kind: Kind::Module,
-        place: at.place(name.span),
+        place: Place::Buffer(name.span),
         what: What::Module(shared(&template.sig)?),
     };
     let entry = owned(at.alloc(), entry)?;

@@ -11,7 +11,7 @@ ghost use Rattle.type_reading.specs.Copying.{paths_of};
 ghost use Rattle.module_steps.specs.Scenes.{has_name, SameNames, NamesOne, OnlyNames, told_again, ToldTwice, repeated, with_names, AsksNew, AddsNamed, AddsEntry};
 
 use crate::lists::{add_entries, add_origins};
-use env_table::{Entry, Kind, Origin, Sig, What};
+use env_table::{Entry, Kind, Origin, Place, Sig, What};
 use owned_lists::{owned, push, shared};
 use std::alloc::{AllocError, Global};
 use std::collections::HashSet;
@@ -206,7 +206,7 @@ impl Scene {
         let entry = Entry {
             name: token.name.share()?,
             kind,
-            place: at.place(token.span),
+            place: Place::Buffer(token.span),
             what,
         };
         let entry = owned(at.alloc(), entry)?;

@@ -190,7 +190,7 @@ field_pattern_told {w} f s = record { matches = λ c n is_found names seen t o. 
 fields_told : {w : Around} (c : Context) (o : IsIn w c) (n : ℕ) (found : Option Declaration) {fs : List FieldPattern} (names seen : List Name) → Each (ToldFieldPattern w) fs → Told w (match_fields c n found fs names seen)
 fields_told c o n found names seen no_one = nothing_told
 fields_told c o n found names seen (one_and {x = f} s rest) =
-    join (s.matches c n _ names seen (field_type c n found f.label) o) (fields_told c o n found (names ++ name_in f.label) (seen ++ mentions_in_field f) rest)
+    join (s.matches c n _ names seen (field_type c n f.node found f.label) o) (fields_told c o n found (names ++ name_in f.label) (seen ++ mentions_in_field f) rest)
 
 -- the node has the type of a record, if it is found
 abbrev is_of_record : Context → ℕ → Option Declaration → List Condition

@@ -53,7 +53,7 @@ field_told {w} f s = record { asks = λ c is_found names t o. by c is_found name
 
 fields_told : {w : Around} (c : Context) (o : IsIn w c) (n : ℕ) (found : Option Declaration) {fs : List Field} (names : List Name) → Each (ToldField w) fs → Told w (fields_ask c n found fs names)
 fields_told c o n found names no_one = nothing_told
-fields_told c o n found names (one_and {x = f} s rest) = join (s.asks c (is_some found) names (field_type c n found f.label) o) (fields_told c o n found (names ++ name_in f.label) rest)
+fields_told c o n found names (one_and {x = f} s rest) = join (s.asks c (is_some found) names (field_type c n f.node found f.label) o) (fields_told c o n found (names ++ name_in f.label) rest)
 
 is_record_told : {w : Around} (c : Context) (n : ℕ) (o : Option Declaration) → Told w (is_record c n o)
 is_record_told c n None = nothing_told

@@ -8,7 +8,6 @@ use Rattle.signature_model.specs.Declarations.{in_text}
 use Rattle.signature_model.specs.Entries.{Environment, entry, an_exception}
 use Rattle.typing_model.specs.Demands.{Site, environment_of}
 use Rattle.typing_model.specs.Contexts.{Context, Choice, Bound, parameters, type_at, under, generalised_in}
-use Rattle.typing_model.specs.Names.{then_by}
 use Rattle.typing_model.specs.Declarations.{read_optional, entries_of_exception}
 use Rattle.typing_model.specs.Parts.{Expression, Pattern, TypeExpression, ConstructorPart, Item, Seen, seen_too, no_names, Child, token_in, path_in, no_expression_at, no_pattern_at, no_type_at, types_in, expression_in, expressions_in, pattern_in, patterns_in, first_of, place_of}
 use Rattle.typing_model.specs.Bindings.{names_of_group, held_by}

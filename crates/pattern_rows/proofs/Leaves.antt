@@ -6,7 +6,7 @@ use Rattle.text_terms.specs.declared.Span.{Span}
 use Rattle.tree_model.specs.Rows.{pname_row, pany_row, pconst_row, pneg_row, pcon_row}
 use Rattle.tree_model.specs.Trees.{Place, Tree}
 use Rattle.syntax_tree.specs.View.{place_of}
-use Rattle.signature_model.specs.Declarations.{Name}
+use Rattle.signature_model.specs.Declarations.{Name, in_text}
 use Rattle.row_parts.specs.Numbered.{token_in, path_in}
 use Rattle.typing_model.specs.Demands.{site, test, demand, twice}
 use Rattle.typing_model.specs.Parts as parts
@@ -53,7 +53,7 @@ nameless {a} {b} {env} {p} {seen} {n} {m} none typed = record {
 }
 
 -- x
-pub named_row : (a b d : Parts) (env : List Entry) (n : ℕ) (at : Place) (t : Tok) (ty : NodeRef) (e : Entry) (seen : List Name) → TypesAny a b ty.0 → Goes a b → AsksFresh b d t seen → IsEntry e t.name ty →
+pub named_row : (a b d : Parts) (env : List Entry) (n : ℕ) (at : Place) (t : Tok) (ty : NodeRef) (e : Entry) (seen : List Name) → TypesAny a b ty.0 → Goes a b → AsksFresh b d t seen → IsEntry e t.name (in_text (parts.place_of t)) ty →
     MatchesRow a d env (pname n at (Some t)) seen (record { token = t; node = ty; entry = e } ∷ []) n ty.0
 named_row a b d env n at t ty e seen any goes fresh entry = record {
   opens = [];

@@ -7,11 +7,11 @@ use Rattle.tree_model.specs.Slots.{is_operand}
 use Rattle.tree_model.specs.Trees.{Place, Tree}
 use Rattle.type_model.specs.Types.{types_of}
 use Rattle.type_model.specs.Types.{Typ as type}
-use Rattle.signature_model.specs.Declarations.{Name}
+use Rattle.signature_model.specs.Declarations.{Name, in_text}
 use Rattle.row_parts.specs.Numbered.{Numbered, operands_in, all_operands, first_in, filled_in, token_in}
 use Rattle.typing_model.specs.Demands.{Condition, site, same, equal}
 use Rattle.typing_model.specs.Contexts.{Choice, Context, ask, type_at}
-use Rattle.typing_model.specs.Parts.{Pattern, TypeExpression}
+use Rattle.typing_model.specs.Parts.{Pattern, TypeExpression, place_of}
 use Rattle.typing_model.specs.BuiltIns.{list_type}
 use Rattle.typing_model.specs.Patterns.{over, pas, ask_fresh}
 use Rattle.type_terms.specs.declared.types.NodeRef.{NodeRef}
@@ -150,7 +150,7 @@ cons_typed a b d e env i n at place t seen added left right m formed row goes al
 
 -- p as x
 pub as_typed : (a b d : Parts) (env : List Entry) (n : ℕ) (at : Place) (p : Pattern) (t : Tok) (ty : NodeRef) (e : Entry) (seen : List Name) (added : List Bind) (ms : List ℕ) → MatchesAll a b env (p ∷ []) seen added ms → slice_get ms 0 ≡ Some ty.0 → Goes a b →
-    AsksFresh b d t (seen ++ p.mentions) → IsEntry e t.name ty → MatchesRow a d env (pas n at p (Some t)) seen (added ++ record { token = t; node = ty; entry = e } ∷ []) n ty.0
+    AsksFresh b d t (seen ++ p.mentions) → IsEntry e t.name (in_text (place_of t)) ty → MatchesRow a d env (pas n at p (Some t)) seen (added ++ record { token = t; node = ty; entry = e } ∷ []) n ty.0
 as_typed a b d env n at p t ty e seen added ms all node goes fresh entry = record {
   opens = all.opens;
   typed = λ aloud F scope G s.

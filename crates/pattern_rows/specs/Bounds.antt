@@ -1,7 +1,7 @@
 -- Names that patterns bind: those of the code stand for those of the definitions.
 use Rattle.std.specs.Prelude.{◌≡◌, ℕ, List, [], ◌∷◌, ◌++◌}
 use Rattle.token_model.specs.Kinds.{Tok}
-use Rattle.signature_model.specs.Declarations.{Name}
+use Rattle.signature_model.specs.Declarations.{Name, in_text}
 use Rattle.signature_model.specs.Matching.{IsKnown}
 use Rattle.typing_model.specs.Contexts.{Choice, Context, Bound}
 use Rattle.typing_model.specs.Parts.{place_of}
@@ -31,7 +31,7 @@ pub record IsBound (F : Frame) (b : Sight) (G : Letters) (bound : Bound) (code :
   pub chosen : (c : Context) → bound.has_type c ≡ bound.has_type (context_of c.chosen)
   pub means : Means F b G (λ ch. bound.has_type (context_of ch)) code.node.0
   pub known : AlwaysKnown F b G code.node.0
-  pub entry : IsEntry code.entry bound.name code.node
+  pub entry : IsEntry code.entry bound.name (in_text bound.place) code.node
 
 -- names stand for others, one by one and in order
 pub data AllBound (F : Frame) (b : Sight) (G : Letters) : List Bound → List Bind → Type 0 where

@@ -1,7 +1,8 @@
 -- What comes of a row that types itself: a new variable for it, or a name that is bound to its type.
 use Rattle.std.specs.Prelude.{◌≡◌, ℕ, List, [], ◌∷◌, Option, Some, None}
 use Rattle.token_model.specs.Kinds.{Tok}
-use Rattle.signature_model.specs.Declarations.{Name}
+use Rattle.signature_model.specs.Declarations.{Name, in_text}
+use Rattle.typing_model.specs.Parts.{place_of}
 use Rattle.type_terms.specs.declared.types.NodeRef.{NodeRef}
 use Rattle.env_table.specs.declared.entries.Entry.{Entry}
 use Rattle.env_table.specs.declared.seen.Seen.{Seen}
@@ -39,7 +40,7 @@ pub record BindsName (a d : Parts) (env : List Entry) (number : ℕ) (t : Tok) (
   pub recorded : Seen
   pub fresh : AsksFresh a between t seen
   pub goes : Goes a between
-  pub is_entry : IsEntry entry t.name ty
+  pub is_entry : IsEntry entry t.name (in_text (place_of t)) ty
   pub has_type : recorded.ty ≡ Some ty
   pub in_scope : recorded.env ≡ env
   pub noted : Noted between.telling between d number recorded

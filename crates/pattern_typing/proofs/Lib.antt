@@ -6,4 +6,5 @@ pub mod PatternLaws
 pub mod Carrying
 pub mod Constructors
 pub mod Stepping
+pub mod Telling
 pub mod Recording

@@ -19,7 +19,8 @@ ghost use Rattle.typing_model.specs.BuiltIns.{constant};
 ghost use Rattle.operand_laws.specs.Operands.{number_of, pattern_of};
 ghost use Rattle.typing_steps.specs.Typing.{path_as};
 ghost use Rattle.typing_conditions.specs.Surroundings.{IsEntry};
-ghost use Rattle.signature_model.specs.Declarations.{Name};
+ghost use Rattle.signature_model.specs.Declarations.{Name, in_text};
+ghost use Rattle.typing_model.specs.Parts as parts;
 ghost use Rattle.pattern_rows.specs.Applied.{AppliesConstructor, MatchesApplied, MatchesWanted};
 ghost use Rattle.pattern_rows.specs.Bounds.{Bind};
 ghost use Rattle.pattern_rows.specs.CarriedPatterns.{IsCarriedPattern, MatchesBeside, MatchesNode, MatchesNodeOf, MatchesOperand, MatchesOperands};
@@ -31,7 +32,7 @@ ghost use Rattle.pattern_typing.specs.Records.{here_of};
 ghost use Rattle.pattern_rows.specs.Sides.{AsksBeside, AsksLater, AsksName, AsksNames, AsksSides, Side, find_bind, first_apart_here, name_apart_here};
 ghost use Rattle.typing_state.specs.Notes.{IsRecorded};
 
-use env_table::{Entry, Kind, What};
+use env_table::{Entry, Kind, Place, What};
 use owned_lists::{owned, push};
 use row_parts::{
     Operand, WrittenPath, first_operand, operand_in, operands, operands_of, token, written_path,
@@ -80,12 +81,12 @@ struct SideMatch<'a> {
 fn bound_name<'a>(at: &Parts, token: &'a Token, node: NodeRef) -> Result<BoundName<'a>, NoMemory>
     ensures token { IfOk result (λ b. b.token ≡ token.entry) }
     ensures node { IfOk result (λ b. b.node ≡ node) }
-    ensures entry { IfOk result (λ b. IsEntry b.entry.value (tok_of token.now).name node) }
+    ensures entry { IfOk result (λ b. IsEntry b.entry.value (tok_of token.now).name (in_text (parts.place_of (tok_of token.now))) node) }
 {
     let entry = Entry {
         name: token.name.share()?,
         kind: Kind::Value,
-        place: at.place(token.span),
+        place: Place::Buffer(token.span),
         what: What::Scheme(node),
     };
     let entry = owned(at.alloc(), entry)?;

@@ -44,6 +44,7 @@ use Rattle.prelude_checks.proofs.Places.{starts_there}
 use Rattle.prelude_checks.proofs.FirstNames.{first_known}
 use Rattle.prelude_checks.proofs.Plain.{knows_names}
 use Rattle.prelude_checks.proofs.Prelude.{lexed}
+use Rattle.prelude_places.specs.There.{AreThere}
 use Rattle.prelude_checks.proofs.Starts.{StartsKnown, starts_known}
 use Rattle.prelude_checks.proofs.Tokens.{tokens}
 use Rattle.prelude_checks.proofs.TypeRows.{types_carried}
@@ -87,17 +88,17 @@ names_known : (env : Environment) → IsFirst env → knows_names env ≡ true
 names_known env is = ap knows_names (first_one env is) ∙ first_known
 
 -- Items that add the same names whatever is chosen, where one typing of the definitions is known: the next item starts among the names behind them, as names of the prelude.
-starts_behind : (a b : Parts) (now : Scene) (ms : List Item) (g : IsSpecified (λ ch. built_in_names) ms no_names a b [] now) (V : Types) (c : Context) → AllMet (λ ch. built_in_names) (sight a) [] (λ x. items_ask x no_names ms) V c →
-    StartsAmong (sight b) [] now.env (λ ch. map entry_there (behind_items c ms)) g.added.done.outside.older
-starts_behind a b now ms g V c met =
+starts_behind : (a b : Parts) (now : Scene) (names : List Entry) → AreThere now.env names → (ms : List Item) (g : IsSpecified (λ ch. built_in_names) ms no_names a b [] now) (V : Types) (c : Context) → AllMet (λ ch. built_in_names) (sight a) [] (λ x. items_ask x no_names ms) V c →
+    StartsAmong (sight b) [] names (λ ch. map entry_there (behind_items c ms)) g.added.done.outside.older
+starts_behind a b now names all ms g V c met =
     let one = met_after g.added.done [] V c (subst (λ ns. AllMet (λ ch. built_in_names) (sight a) [] (λ x. items_ask x no_names ns) V c) (sym (append-nil ms)) met) in
     let same : (ch : Choice) → g.added.done.env ch ≡ behind_items c ms = λ ch. g.added.alike.names ch ∙ sym (g.added.alike.names c.chosen) ∙ sym one.met.enters.env in
-    starts_there (λ V ch given. g.added.alike.letters V ch tt) (λ ch. ap (map entry_there) (same ch)) g.added.done.outside
+    starts_there all (λ V ch given. g.added.alike.letters V ch tt) (λ ch. ap (map entry_there) (same ch)) g.added.done.outside
 
--- Where the items of the prelude were typed after the built-in types, from a state in which no type is recorded, the next item starts among the names of the first environment.
-pub prelude_starts : (a b : Parts) (env : List Entry) (now : Scene) (ts : List Tok) → Lex prelude_text ts → a.item ≡ 0 → SpecifiesItemsFirst a b env now (prelude_operands ts) [] → is_aloud a.telling ≡ true → StartsAmong (sight a) [] env (λ ch. built_in_names) [] → HasConstants a →
-    ((i p : ℕ) → (sight a).types i p ≡ None) → (sight a).reports ≡ [] → (first : Environment) → IsFirst first → StartsFirst b now.env first
-prelude_starts a b env now ts lex zero gives aloud at constants none quiet first is =
+-- Where the items of the prelude were typed after the built-in types, from a state in which no type is recorded, the next item starts among the names of the first environment, once they are names of the prelude.
+pub prelude_starts : (a b : Parts) (env : List Entry) (now : Scene) (names : List Entry) → AreThere now.env names → (ts : List Tok) → Lex prelude_text ts → a.item ≡ 0 → SpecifiesItemsFirst a b env now (prelude_operands ts) [] → is_aloud a.telling ≡ true → StartsAmong (sight a) [] env (λ ch. built_in_names) [] → HasConstants a →
+    ((i p : ℕ) → (sight a).types i p ≡ None) → (sight a).reports ≡ [] → (first : Environment) → IsFirst first → StartsFirst b names first
+prelude_starts a b env now names there ts lex zero gives aloud at constants none quiet first is =
     let (ch, k) = prelude_known ts lex in
     let os = prelude_operands ts in
     let E : Choice → Environment = λ ch. built_in_names in
@@ -107,11 +108,11 @@ prelude_starts a b env now ts lex zero gives aloud at constants none quiet first
     let f = gives [] E k.carried aloud at.outside constants (subst (λ U. AreNoted U a) (sym at.older) (none_noted a)) V c met (subst (λ i. AreKnownAt ch i os) (sym zero) k.known) in
     let all : f.items ≡ specifications_at a.item os = sym (append-nil f.items) ∙ f.splits in
     let all_met = subst (λ ms. AllMet E (sight a) [] (λ x. items_ask x no_names ms) V c) (sym all) met in
-    let starts = starts_behind a b now f.items f.given V c all_met in
+    let starts = starts_behind a b now names there f.items f.given V c all_met in
     let stands : map entry_there (behind_items c f.items) ≡ first = ap (λ ms. map entry_there (behind_items c ms)) (all ∙ here) ∙ sym (k.stands first is) in
     let none_typed : (i p : ℕ) → (sight b).types i p ≡ None = λ i p. f.given.added.untyped.types i p ∙ none i p in
-    let k : StartsKnown (sight b) now.env first f.given.added.done.outside.older =
-    starts_known (sight b) now.env first (names_known first is) none_typed (subst (λ F. StartsAmong (sight b) [] now.env (λ ch. F) f.given.added.done.outside.older) stands starts) in
+    let k : StartsKnown (sight b) names first f.given.added.done.outside.older =
+    starts_known (sight b) names first (names_known first is) none_typed (subst (λ F. StartsAmong (sight b) [] names (λ ch. F) f.given.added.done.outside.older) stands starts) in
     record {
       older = f.given.added.done.outside.older;
       starts = k.starts;

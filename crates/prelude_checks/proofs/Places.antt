@@ -1,5 +1,7 @@
--- Where names are defined isn't asked: the code's names stand for those of a text, and for the same names of the prelude.
-use Rattle.std.proofs.Common.{◌≡◌, ◌∙◌, ℕ, ◌||◌, false, List, [], ◌∷◌, ◌++◌, map, Option, Some, option_map, refl, ap, subst}
+-- The code's names that stand for those of a text stand for the same names of the prelude, once they are made names of the prelude.
+use Rattle.std.proofs.Common.{◌≡◌, ◌∙◌, ℕ, ◌||◌, false, List, [], ◌∷◌, ◌++◌, map, Option, Some, option_map, refl, sym, ap, subst}
+use Rattle.std.specs.declared.rc.Rc.{Rc}
+use Rattle.std.specs.declared.alloc.Global.{Global}
 use Rattle.std.proofs.lemmas.List.{map-append}
 use Rattle.std.proofs.lemmas.Option.{slice_get-map}
 use Rattle.type_model.specs.Types.{Typ}
@@ -16,15 +18,23 @@ use Rattle.type_nodes.specs.Nodes.{Node}
 use Rattle.type_nodes.specs.Readings.{Types}
 use Rattle.env_table.specs.declared.entries.Constructor.{Constructor}
 use Rattle.env_table.specs.declared.entries.Components.{out-Components}
+use Rattle.env_table.specs.declared.entries.Components as shown
 use Rattle.env_table.specs.declared.entries.Declaration.{Declaration}
 use Rattle.env_table.specs.declared.entries.Entry.{Entry}
 use Rattle.env_table.specs.declared.entries.Shape.{Shape}
-use Rattle.env_table.specs.declared.entries.Sig.{Sig}
+use Rattle.env_table.specs.declared.entries.Place.{Place}
+use Rattle.env_table.specs.declared.entries.Place.TheVariants as place
+use Rattle.env_table.specs.declared.entries.Sig.{Sig, out-Sig}
+use Rattle.env_table.specs.declared.entries.Sig.TheOpen.{Sig-F, What-F}
+use Rattle.env_table.specs.declared.entries.Sig.TheVariants as codesig
 use Rattle.env_table.specs.declared.entries.Template.{Template as CodeTemplate}
-use Rattle.env_table.specs.declared.entries.What.{What}
+use Rattle.env_table.specs.declared.entries.What.{What, out-What}
+use Rattle.env_table.specs.declared.entries.What.TheVariants as what
+use Rattle.env_table.specs.Views.{kind_of as code_kind}
+use Rattle.prelude_places.specs.There as there
 use Rattle.typing_conditions.specs.Assumptions.{SchemeFits, SchemeReads}
 use Rattle.typing_conditions.specs.Declared.{ConstructorAs, LabelAs, OneByOne, no_more, one_more, ShapeAs, tell_nothing, tell_constructors, tell_labels, DeclaredAs, ExceptionAs}
-use Rattle.typing_conditions.specs.Environments.{constructor_at, label_at, WhatAs, of_value, of_constructor, of_exception, of_label, of_type, of_module, of_module_type, EntryAs, entry_as, EnvAs, no_names, newest, SigAs, of_hole, of_structure, of_functor, TemplateAs, of_template}
+use Rattle.typing_conditions.specs.Environments.{defined_at, constructor_at, label_at, WhatAs, of_value, of_constructor, of_exception, of_label, of_type, of_module, of_module_type, EntryAs, entry_as, EnvAs, no_names, newest, SigAs, of_hole, of_structure, of_functor, TemplateAs, of_template}
 use Rattle.typing_conditions.specs.Sights.{Sight, Letters, AreGiven}
 use Rattle.typing_conditions.specs.Standing.{IsIn, Stands}
 use Rattle.typing_steps.specs.Typing.{as_declared}
@@ -96,32 +106,84 @@ component_entries (sig.Component n at m cs) =
     ∙ ap (λ es. es ++ map entry_there (entries_in cs)) (meaning_entries n at m)
     ∙ ap (λ es. entries_of n (place_there at) (meaning_there m) ++ es) (component_entries cs)
 
--- names of the code
+-- what a name stands for that is found in the prelude later on, by what it stood for
+abbrev After : {C E : Type 0} → What-F Sig What C E CodeTemplate → What → Type 0
+After (What-F.Scheme n) v = v ≡ what.Scheme n
+After (What-F.Constructor d k) v = (e : Rc Declaration Global) × (v ≡ what.Constructor e k) × (e.value ≡ d.value)
+After (What-F.Exception c) v = (d : Rc Constructor Global) × (v ≡ what.Exception d) × (d.value ≡ c.value)
+After (What-F.Label d k) v = (e : Rc Declaration Global) × (v ≡ what.Label e k) × (e.value ≡ d.value)
+After (What-F.Type d) v = (e : Rc Declaration Global) × (v ≡ what.Type e) × (e.value ≡ d.value)
+After (What-F.Module s) v = (t : Rc Sig Global) × (v ≡ what.Module t) × there.SigThere s.value t.value
+After (What-F.ModuleType s) v = (t : Rc CodeTemplate Global) × (v ≡ what.ModuleType t) × there.TemplateThere s.value t.value
+
+after : {w v : What} → there.WhatThere w v → After (out-What w) v
+after {v = v} (there.same_value n e f) = subst (λ o. After o v) (sym (ap out-What e ∙ what.outs-Scheme n)) f
+after {v = v} (there.same_constructor d d' k e f same) = subst (λ o. After o v) (sym (ap out-What e ∙ what.outs-Constructor d k)) (d', f, same)
+after {v = v} (there.same_exception c c' e f same) = subst (λ o. After o v) (sym (ap out-What e ∙ what.outs-Exception c)) (c', f, same)
+after {v = v} (there.same_label d d' k e f same) = subst (λ o. After o v) (sym (ap out-What e ∙ what.outs-Label d k)) (d', f, same)
+after {v = v} (there.same_type d d' e f same) = subst (λ o. After o v) (sym (ap out-What e ∙ what.outs-Type d)) (d', f, same)
+after {v = v} (there.module_there s t e f sig) = subst (λ o. After o v) (sym (ap out-What e ∙ what.outs-Module s)) (t, f, sig)
+after {v = v} (there.module_type_there s t e f template) = subst (λ o. After o v) (sym (ap out-What e ∙ what.outs-ModuleType s)) (t, f, template)
+
+-- and a signature
+abbrev AfterSig : Sig-F Sig What shown.Components Entry CodeTemplate → Sig → Type 0
+AfterSig Sig-F.Hole t = t ≡ codesig.Hole
+AfterSig (Sig-F.Structure c) t = (d : shown.Components) × (t ≡ codesig.Structure d) × there.AreThere (map (λ r. r.value) (out-Components c).entries.items) (map (λ r. r.value) (out-Components d).entries.items)
+AfterSig (Sig-F.Functor p b) t = (q d : Rc CodeTemplate Global) × (t ≡ codesig.Functor q d) × there.TemplateThere p.value q.value × there.TemplateThere b.value d.value
+
+after_sig : {s t : Sig} → there.SigThere s t → AfterSig (out-Sig s) t
+after_sig {t = t} (there.hole_there e f) = subst (λ o. AfterSig o t) (sym (ap out-Sig e ∙ codesig.outs-Hole)) f
+after_sig {t = t} (there.structure_there c d e f all) = subst (λ o. AfterSig o t) (sym (ap out-Sig e ∙ codesig.outs-Structure c)) (d, f, all)
+after_sig {t = t} (there.functor_there p b q d e f first second) = subst (λ o. AfterSig o t) (sym (ap out-Sig e ∙ codesig.outs-Functor p b)) (q, d, f, first, second)
+
+-- a place, and the same in the prelude
+placed_there : (p : Place) → defined_at (there.place_there p) ≡ place_there (defined_at p)
+placed_there (place.Buffer s) = refl
+placed_there (place.Prelude s) = refl
+placed_there (place.BuiltIn k) = refl
+
+-- names of the code, and the same of the prelude
 module _ (R : ℕ → Scheme → Type 0) (D : Declaration → rules.Declaration → Type 0) (X : Constructor → Option Typ → Type 0) (on_declaration : (d : Declaration) (e : rules.Declaration) → D d e → D d (declaration_there e)) where
   mutual
-    what_is_there : {w : What} {f : Referent} → WhatAs R D X w f → WhatAs R D X w (referent_there f)
-    what_is_there (of_value e h) = of_value e h
-    what_is_there (of_constructor {d = d} {place = place} {e = x} {k = k} e h at) = of_constructor e (on_declaration d.value x h) (constructor_is_there x.shape place k at)
-    what_is_there (of_exception e h) = of_exception e h
-    what_is_there (of_label {d = d} {place = place} {e = x} {l = l} e h at) = of_label e (on_declaration d.value x h) (label_is_there x.shape place l at)
-    what_is_there (of_type {d = d} {e = x} e h) = of_type e (on_declaration d.value x h)
-    what_is_there (of_module e h) = of_module e (sig_is_there h)
-    what_is_there (of_module_type e h) = of_module_type e (template_is_there h)
+    what_is_there : {w v : What} {f : Referent} → there.WhatThere w v → WhatAs R D X w f → WhatAs R D X v (referent_there f)
+    what_is_there {v = v} t (of_value {n = n} e h) = of_value (subst (λ o. After o v) (ap out-What e ∙ what.outs-Scheme n) (after t)) h
+    what_is_there {v = v} t (of_constructor {d = d} {place = place} {e = x} {k = k} e h at) =
+        let (d', is, same) = subst (λ o. After o v) (ap out-What e ∙ what.outs-Constructor d place) (after t) in
+        of_constructor is (subst (λ y. D y (declaration_there x)) (sym same) (on_declaration d.value x h)) (constructor_is_there x.shape place k at)
+    what_is_there {v = v} t (of_exception {c = c} {o = o} e h) =
+        let (c', is, same) = subst (λ o. After o v) (ap out-What e ∙ what.outs-Exception c) (after t) in
+        of_exception is (subst (λ y. X y o) (sym same) h)
+    what_is_there {v = v} t (of_label {d = d} {place = place} {e = x} {l = l} e h at) =
+        let (d', is, same) = subst (λ o. After o v) (ap out-What e ∙ what.outs-Label d place) (after t) in
+        of_label is (subst (λ y. D y (declaration_there x)) (sym same) (on_declaration d.value x h)) (label_is_there x.shape place l at)
+    what_is_there {v = v} t (of_type {d = d} {e = x} e h) =
+        let (d', is, same) = subst (λ o. After o v) (ap out-What e ∙ what.outs-Type d) (after t) in
+        of_type is (subst (λ y. D y (declaration_there x)) (sym same) (on_declaration d.value x h))
+    what_is_there {v = v} t (of_module {s = s} e h) =
+        let (s', is, sig) = subst (λ o. After o v) (ap out-What e ∙ what.outs-Module s) (after t) in
+        of_module is (sig_is_there sig h)
+    what_is_there {v = v} t (of_module_type {t = u} e h) =
+        let (u', is, template) = subst (λ o. After o v) (ap out-What e ∙ what.outs-ModuleType u) (after t) in
+        of_module_type is (template_is_there template h)
 
-    entry_is_there : {e : Entry} {f : Named} → EntryAs R D X e f → EntryAs R D X e (entry_there f)
-    entry_is_there (entry_as {f = f} n k w) = entry_as n (kind_there f.stands_for ∙ k) (what_is_there w)
+    entry_is_there : {e e' : Entry} {f : Named} → there.EntryThere e e' → EntryAs R D X e f → EntryAs R D X e' (entry_there f)
+    entry_is_there (there.entry_there {e = e} n' k' p' t) (entry_as {f = f} n k p w) = entry_as (n ∙ sym n') (kind_there f.stands_for ∙ k ∙ ap code_kind (sym k')) (ap defined_at p' ∙ placed_there e.place ∙ ap place_there p) (what_is_there t w)
 
-    pub env_is_there : {es : List Entry} {fs : Environment} → EnvAs R D X es fs → EnvAs R D X es (map entry_there fs)
-    env_is_there no_names = no_names
-    env_is_there (newest h hs) = newest (entry_is_there h) (env_is_there hs)
+    pub env_is_there : {es es' : List Entry} {fs : Environment} → there.AreThere es es' → EnvAs R D X es fs → EnvAs R D X es' (map entry_there fs)
+    env_is_there there.none_there no_names = no_names
+    env_is_there (there.one_there x xs) (newest h hs) = newest (entry_is_there x h) (env_is_there xs hs)
 
-    sig_is_there : {s : Sig} {T : Signature} → SigAs R D X s T → SigAs R D X s (signature_there T)
-    sig_is_there (of_hole e) = of_hole e
-    sig_is_there (of_structure {c = c} {cs = cs} e h) = of_structure e (subst (λ fs. EnvAs R D X (map (λ r. r.value) (out-Components c).entries.items) fs) (component_entries cs) (env_is_there h))
-    sig_is_there (of_functor e p b) = of_functor e (template_is_there p) (template_is_there b)
+    sig_is_there : {s s' : Sig} {T : Signature} → there.SigThere s s' → SigAs R D X s T → SigAs R D X s' (signature_there T)
+    sig_is_there {s' = s'} t (of_hole e) = of_hole (subst (λ o. AfterSig o s') (ap out-Sig e ∙ codesig.outs-Hole) (after_sig t))
+    sig_is_there {s' = s'} t (of_structure {c = c} {cs = cs} e h) =
+        let (d, is, all) = subst (λ o. AfterSig o s') (ap out-Sig e ∙ codesig.outs-Structure c) (after_sig t) in
+        of_structure is (subst (λ fs. EnvAs R D X (map (λ r. r.value) (out-Components d).entries.items) fs) (component_entries cs) (env_is_there all h))
+    sig_is_there {s' = s'} t (of_functor {p = p} {b = b} e h k) =
+        let (q, d, is, first, second) = subst (λ o. AfterSig o s') (ap out-Sig e ∙ codesig.outs-Functor p b) (after_sig t) in
+        of_functor is (template_is_there first h) (template_is_there second k)
 
-    template_is_there : {t : CodeTemplate} {u : Template} → TemplateAs R D X t u → TemplateAs R D X t (record u { signature = signature_there u.signature })
-    template_is_there (of_template m h) = of_template m (sig_is_there h)
+    template_is_there : {t t' : CodeTemplate} {u : Template} → there.TemplateThere t t' → TemplateAs R D X t u → TemplateAs R D X t' (record u { signature = signature_there u.signature })
+    template_is_there (there.template_there made s) (of_template m h) = of_template (made ∙ m) (sig_is_there s h)
 
 -- what is free in names
 mutual
@@ -154,15 +216,15 @@ free_there : (v : ℕ) (E : Environment) → free_in v (map entry_there E) ≡ f
 free_there v [] = refl
 free_there v (e ∷ E) = (λ i. free_referent v e.stands_for i || free_there v E i)
 
-stands_there : {R : List Node → Types → ℕ → Scheme → Type 0} {nodes : List Node} {J N : Types} {C : List ℕ} {V : Types} {env : List Entry} {E : Environment} → Stands R (DeclaredAs nodes C N) (ExceptionAs nodes C N) nodes J C V env E → Stands R (DeclaredAs nodes C N) (ExceptionAs nodes C N) nodes J C V env (map entry_there E)
-stands_there {R} {nodes} {N = N} {C = C} {V = V} {E = E} s = record {
-  names = env_is_there (λ r sc. R nodes V r sc × IsIn C r) (DeclaredAs nodes C N) (ExceptionAs nodes C N) declaration_is_there s.names;
+stands_there : {R : List Node → Types → ℕ → Scheme → Type 0} {nodes : List Node} {J N : Types} {C : List ℕ} {V : Types} {env names : List Entry} {E : Environment} → there.AreThere env names → Stands R (DeclaredAs nodes C N) (ExceptionAs nodes C N) nodes J C V env E → Stands R (DeclaredAs nodes C N) (ExceptionAs nodes C N) nodes J C V names (map entry_there E)
+stands_there {R} {nodes} {N = N} {C = C} {V = V} {E = E} all s = record {
+  names = env_is_there (λ r sc. R nodes V r sc × IsIn C r) (DeclaredAs nodes C N) (ExceptionAs nodes C N) declaration_is_there all s.names;
   brings = λ u w free stands occurs. free_there w E ∙ s.brings u w free stands occurs;
 }
 
 -- The next item starts among the same names of the prelude, and with other letters if those of before are given then.
-pub starts_there : {b : Sight} {G H : Letters} {env : List Entry} {E E' : Choice → Environment} → ((V : Types) (ch : Choice) → AreGiven H V ch → AreGiven G V ch) → ((ch : Choice) → map entry_there (E ch) ≡ E' ch) → (at : Outside as_declared b G env E) → StartsAmong b H env E' at.older
-starts_there {b} {G} {H} {env} {E} {E'} given same at = record {
+pub starts_there : {b : Sight} {G H : Letters} {env names : List Entry} {E E' : Choice → Environment} → there.AreThere env names → ((V : Types) (ch : Choice) → AreGiven H V ch → AreGiven G V ch) → ((ch : Choice) → map entry_there (E ch) ≡ E' ch) → (at : Outside as_declared b G env E) → StartsAmong b H names E' at.older
+starts_there {b} {G} {H} {env} {names} {E} {E'} all given same at = record {
   outside = record {
     sound = at.sound;
     level = at.level;
@@ -173,11 +235,11 @@ starts_there {b} {G} {H} {env} {E} {E'} given same at = record {
     unknown = at.unknown;
     steady = at.steady;
     context = at.context;
-    covered = at.covered;
+    covered = let (F, h) = at.covered in (map entry_there F, env_is_there (λ r sc. IsIn at.roots r) (DeclaredAs b.nodes at.roots at.names) (ExceptionAs b.nodes at.roots at.names) declaration_is_there all h);
     known = false;
     knows = λ known. absurd (no_yes known);
-    reads = λ J V ch own reads agrees. subst (λ F. Stands SchemeReads (DeclaredAs b.nodes at.roots at.names) (ExceptionAs b.nodes at.roots at.names) b.nodes J at.roots V env F) (same ch) (stands_there (at.reads J V ch own reads (before agrees)));
-    fits = λ J V ch own loose agrees. subst (λ F. Stands SchemeFits (DeclaredAs b.nodes at.roots at.names) (ExceptionAs b.nodes at.roots at.names) b.nodes J at.roots V env F) (same ch) (stands_there (at.fits J V ch own loose (before agrees)));
+    reads = λ J V ch own reads agrees. subst (λ F. Stands SchemeReads (DeclaredAs b.nodes at.roots at.names) (ExceptionAs b.nodes at.roots at.names) b.nodes J at.roots V names F) (same ch) (stands_there all (at.reads J V ch own reads (before agrees)));
+    fits = λ J V ch own loose agrees. subst (λ F. Stands SchemeFits (DeclaredAs b.nodes at.roots at.names) (ExceptionAs b.nodes at.roots at.names) b.nodes J at.roots V names F) (same ch) (stands_there all (at.fits J V ch own loose (before agrees)));
   };
   older = refl;
 }

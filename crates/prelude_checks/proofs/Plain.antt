@@ -201,7 +201,7 @@ module _ (R S : ℕ → Scheme → Type 0) (on_scheme : (n : ℕ) (s : Scheme) �
 
   value_env : {es : List Entry} {fs : Environment} → EnvAs R Before X es fs → are_values fs ≡ true → EnvAs S After Y es fs
   value_env no_names h = no_names
-  value_env (newest {f = f} {fs = fs} (entry_as n k w) hs) h = let (first, others) = and_cases (is_value f.stands_for) (are_values fs) h in newest (entry_as n k (value_what w first)) (value_env hs others)
+  value_env (newest {f = f} {fs = fs} (entry_as n k p w) hs) h = let (first, others) = and_cases (is_value f.stands_for) (are_values fs) h in newest (entry_as n k p (value_what w first)) (value_env hs others)
 
   sig_plain : {s : Sig} {T : Signature} → SigAs R Before X s T → knows_signature T ≡ true → SigAs S After Y s T
   sig_plain (of_hole e) h = of_hole e
@@ -220,4 +220,4 @@ module _ (R S : ℕ → Scheme → Type 0) (on_scheme : (n : ℕ) (s : Scheme) �
   -- Names for which all of that is known stand for the same where the variables in their roots are named anew.
   pub env_plain : {es : List Entry} {fs : Environment} → EnvAs R Before X es fs → knows_names fs ≡ true → EnvAs S After Y es fs
   env_plain no_names h = no_names
-  env_plain (newest {f = f} {fs = fs} (entry_as n k w) hs) h = let (first, others) = and_cases (knows_referent f.stands_for) (knows_names fs) h in newest (entry_as n k (what_plain w first)) (env_plain hs others)
+  env_plain (newest {f = f} {fs = fs} (entry_as n k p w) hs) h = let (first, others) = and_cases (knows_referent f.stands_for) (knows_names fs) h in newest (entry_as n k p (what_plain w first)) (env_plain hs others)

@@ -26,6 +26,7 @@ use Rattle.module_steps.specs.Scenes.{has_name}
 use Rattle.signature_typing.specs.Specifications.{GivesSpecification, SpecifiesItemsFirst, specified_from}
 use Rattle.signature_typing.proofs.SpecificationSteps.{specifications_start, specified_next}
 use Rattle.prelude_checks.specs.Known.{StartsFirst, IsFresh, prelude_operands}
+use Rattle.prelude_places.specs.There.{AreThere}
 use Rattle.prelude_checks.proofs.Behind.{prelude_starts}
 
 -- The first items of the prelude were typed after the built-in types were declared, and these items are left, of which the first has this number.
@@ -87,8 +88,8 @@ fresh_new a new = record {
 }
 
 -- behind the last item
-pub prelude_ends : {old now : Parts} {s : Scene} {number : ℕ} {left : List Tree} → TypesPrelude old now s number left → left ≡ [] → IsFresh old → (first : Environment) → IsFirst first → StartsFirst now s.env first
-prelude_ends {old} {now} {s} {number} p none fresh first is =
-    prelude_starts p.begun now p.env s is.tokens is.lexed (p.before.item ∙ fresh.item) (subst (λ us. SpecifiesItemsFirst p.begun now p.env s (prelude_operands is.tokens) (specified_from number us)) none (p.first is.tokens is.lexed)) (ap is_aloud p.before.telling ∙ fresh.aloud)
+pub prelude_ends : {old now : Parts} {s : Scene} {number : ℕ} {left : List Tree} → TypesPrelude old now s number left → left ≡ [] → (names : List Entry) → AreThere s.env names → IsFresh old → (first : Environment) → IsFirst first → StartsFirst now names first
+prelude_ends {old} {now} {s} {number} p none names there fresh first is =
+    prelude_starts p.begun now p.env s names there is.tokens is.lexed (p.before.item ∙ fresh.item) (subst (λ us. SpecifiesItemsFirst p.begun now p.env s (prelude_operands is.tokens) (specified_from number us)) none (p.first is.tokens is.lexed)) (ap is_aloud p.before.telling ∙ fresh.aloud)
     (p.starts fresh.level) (p.constants fresh.constants) (λ i q. ap (λ x. type_in (seen_at x i q)) (p.index fresh.level) ∙ fresh.untyped i q)
     (ap (λ f. (sight (record old { faults = f })).reports) (p.faults fresh.level) ∙ fresh.quiet) first is

@@ -26,7 +26,7 @@ ghost use Rattle.typing_model.specs.Meanings.{items_of};
 ghost use Rattle.typing_model.specs.Typings.{conditions_of, outermost, IsMostGeneralChoice};
 ghost use Rattle.typing_model.specs.First.{IsFirst, IsSetting, IsFound, program_items};
 ghost use Rattle.typing_model.specs.Demands.{Site};
-ghost use Rattle.typing_model.specs.Plain.{has_no_modules, has_values_alone};
+ghost use Rattle.typing_model.specs.Plain.{has_no_modules, has_lets_alone, has_values_alone};
 ghost use Rattle.fault_model.specs.Refused.{Refused, AreRefused};
 ghost use Rattle.fault_model.specs.Values.{are_bare};
 ghost use Rattle.typing_model.specs.PreludeText.{prelude_text};
@@ -87,6 +87,12 @@ pub fn types_of_values_are_one()
     ensures { (tokens : List Tok) (o : ℕ) (texts others : List (List ℕ)) → has_values_alone (program_items tokens) ≡ true → (a : AreShown (program_items tokens) (reverse (typed_at o (program_items tokens))) texts) →
         (b : AreShown (program_items tokens) (reverse (typed_at o (program_items tokens))) others) → (k : ℕ) (n : Typed) (shown other : List ℕ) → slice_get (reverse (typed_at o (program_items tokens))) k ≡ Some n →
         slice_get texts k ≡ Some shown → slice_get others k ≡ Some other → HasNone a.weak (type_at a.typing n) → HasNone b.weak (type_at b.typing n) → shown ≡ other }
+{}
+
+/// And of a program of `let` and `;;` all of them are one, weak variables or not: one list of texts.
+pub fn types_of_lets_are_one()
+    ensures { (tokens : List Tok) (o : ℕ) (texts others : List (List ℕ)) → has_lets_alone (program_items tokens) ≡ true →
+        AreShown (program_items tokens) (reverse (typed_at o (program_items tokens))) texts → AreShown (program_items tokens) (reverse (typed_at o (program_items tokens))) others → texts ≡ others }
 {}
 
 /// And the types of its nodes print alike in two most general choices, where the weak variables are those that are free behind its items.

@@ -46,11 +46,11 @@ module _ {R : ℕ → Scheme → Type 0} {nodes : List Node} {C : List ℕ} {N :
   what_makes (of_module_type e h) = ap (λ w. made_by (out-What w)) e
 
   entry_makes : {e : Entry} {f : Named} → EntryAs R (DeclaredAs nodes C N) X e f → makes e ≡ origin_made f.stands_for
-  entry_makes (entry_as n k w) = what_makes w
+  entry_makes (entry_as n k p w) = what_makes w
 
   -- an entry has the same name and kind
   named_so : (k : Kind) (n : Name) {e : Entry} {f : Named} → EntryAs R (DeclaredAs nodes C N) X e f → is_named k n e ≡ lookups.is_named k n f
-  named_so k n (entry_as {e = e} {f = f} name kind w) = (let p = sym kind in let q = sym name in (λ i. same_kind k (p i) && bytes_eq n (q i)))
+  named_so k n (entry_as {e = e} {f = f} name kind at w) = (let p = sym kind in let q = sym name in (λ i. same_kind k (p i) && bytes_eq n (q i)))
 
   -- the newest of a name is as old
   age_alike : (k : Kind) (n : Name) {es : List Entry} {fs : Environment} → EnvAs R (DeclaredAs nodes C N) X es fs → age (is_named k n) es ≡ age (lookups.is_named k n) fs

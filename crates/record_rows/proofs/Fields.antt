@@ -4,11 +4,11 @@ use Rattle.std.proofs.Common.{append_assoc}
 use Rattle.token_model.specs.Kinds.{Tok}
 use Rattle.type_model.specs.Types.{Typ}
 use Rattle.signature_model.specs.Declarations as rules
-use Rattle.signature_model.specs.Declarations.{Name}
-use Rattle.typing_model.specs.Contexts.{Context, tell}
-use Rattle.typing_model.specs.Names.{used_at, then_by}
+use Rattle.signature_model.specs.Declarations.{Name, type_of}
+use Rattle.typing_model.specs.Contexts.{Choice, Context, tell}
+use Rattle.typing_model.specs.Names.{then_by}
 use Rattle.typing_model.specs.Parts.{Written, Pattern, FieldPattern}
-use Rattle.typing_model.specs.Records.{ask_once, field_type, find_label, name_in, labels_in}
+use Rattle.typing_model.specs.Records.{ask_once, used_in_record, field_type, find_label, name_in, labels_in}
 use Rattle.typing_model.specs.Patterns.{match_field, match_fields, names_in_field, mentions_in_field}
 use Rattle.env_table.specs.declared.entries.Entry.{Entry}
 use Rattle.typing_state.specs.declared.parts.Parts.{Parts}
@@ -27,9 +27,9 @@ use Rattle.typing_conditions.proofs.Hiding.{keeps_same, done_none, done_both, do
 use Rattle.typing_conditions.proofs.Keeping.{all_among, among_before, carried_kept, kept_hides}
 use Rattle.typing_steps.specs.States.{is_aloud, sight}
 use Rattle.typing_steps.specs.Typing.{as_declared}
-use Rattle.typing_steps.specs.Building.{TakesAs, used_by}
+use Rattle.typing_steps.specs.Building.{HasIfThere}
 use Rattle.record_steps.specs.Alike.{SameRecord}
-use Rattle.record_steps.specs.Recording.{AsksNothing, HasScope, field_in}
+use Rattle.record_steps.specs.Recording.{AsksNothing, HasScope, field_used_in}
 use Rattle.record_steps.proofs.Fielded.{stands_on}
 use Rattle.record_steps.proofs.Named.{same_field}
 use Rattle.record_steps.proofs.Uses.{use_on}
@@ -37,7 +37,7 @@ use Rattle.pattern_rows.specs.Applied.{MatchesAsIf, MatchesWanted}
 use Rattle.pattern_rows.specs.Bounds.{Bind, AllBound, none_bound, Adds}
 use Rattle.pattern_rows.proofs.Naming.{all_bound_on, all_bound_both, adds_none, adds_both}
 use Rattle.pattern_rows.proofs.Opened.{done_grouped, done_told}
-use Rattle.record_rows.specs.Fields.{RecordHere, KnownAs, BeginsField, names_of_fields, mentions_of_fields, field_rest, FieldEnded, EndsField, FieldAdds, MatchesFields, MatchesFieldsFirst, FieldsInOrder, FieldsInOrderFirst}
+use Rattle.record_rows.specs.Fields.{RecordHere, KnownAs, BeginsField, names_of_fields, mentions_of_fields, chosen_in, field_rest, FieldEnded, EndsField, FieldAdds, MatchesFields, MatchesFieldsFirst, FieldsInOrder, FieldsInOrderFirst}
 use Rattle.record_rows.proofs.Opened.{scope_on, stays_more, stays_without}
 
 -- what is known of a record type stays known
@@ -52,20 +52,23 @@ abbrev pub is_there : Option rules.Declaration → Bool
 is_there found = elim found [ None ↦ false | Some d ↦ true ]
 
 -- the type of a written label, by the declaration that is found
-abbrev pub type_in : Option rules.Declaration → Written → Option Typ
-type_in None p = None
-type_in (Some d) p = field_in (labels_in d.shape) p
+abbrev pub type_in : ℕ → ℕ → Option rules.Declaration → Written → Option (Choice → Typ)
+type_in n k None p = None
+type_in n k (Some d) p = field_used_in n k d p
 
--- it is what the definitions take at the record's node
-pub field_is : (c : Context) (n : ℕ) (found : Option rules.Declaration) (p : Written) → option_map (used_at c n) (type_in found p) ≡ field_type c n found p
-field_is c n None p = refl
-field_is c n (Some d) p = by p.last
+-- it is what the definitions take
+pub field_is : (c : Context) (n k : ℕ) (found : Option rules.Declaration) (p : Written) → chosen_in c (type_in n k found p) ≡ field_type c n k found p
+field_is c n k None p = refl
+field_is c n k (Some d) p = by p.last
   where
-    inside : (x : Option rules.Label) → option_map (used_at c n) (option_map (λ (l : rules.Label). l.body) x) ≡ option_map (λ (l : rules.Label). used_at c n l.body) x
+    used : Typ → Choice → Typ
+    used = used_in_record n k (type_of d)
+
+    inside : (x : Option rules.Label) → chosen_in c (option_map used (option_map (λ (l : rules.Label). l.body) x)) ≡ option_map (λ (l : rules.Label). used l.body c.chosen) x
     inside None = refl
     inside (Some l) = refl
 
-    by : (o : Option Tok) → option_map (used_at c n) (then_by o (λ t. option_map (λ (l : rules.Label). l.body) (find_label t.name (labels_in d.shape)))) ≡ then_by o (λ t. option_map (λ (l : rules.Label). used_at c n l.body) (find_label t.name (labels_in d.shape)))
+    by : (o : Option Tok) → chosen_in c (option_map used (then_by o (λ t. option_map (λ (l : rules.Label). l.body) (find_label t.name (labels_in d.shape))))) ≡ then_by o (λ t. option_map (λ (l : rules.Label). used l.body c.chosen) (find_label t.name (labels_in d.shape)))
     by None = refl
     by (Some t) = inside (find_label t.name (labels_in d.shape))
 
@@ -74,10 +77,10 @@ pub pattern_ends : (b d : Parts) (env : List Entry) (k : ℕ) (l : Written) (p :
     FieldAdds b d env (record { node = k; label = l; pattern = Some p }) names names' seen seen' ty
 pattern_ends b d env k l p names names' seen seen' ty recorded matched = record { added = matched.added; adds = matched.adds; typed = record { opens = matched.opens; typed = λ aloud F scope G n t s has. by aloud F scope G n t ty s has matched.typed } }
   where
-    by : is_aloud b.telling ≡ true → (F : Frame) (scope : Scope) (G : Letters) (n : ℕ) (t : Option Typ) (ty : Option ℕ) → Surrounds as_declared F (sight b) G env scope → TakesAs F (sight b) G n t ty → MatchesAsIf b d env p seen matched.added matched.opens ty →
+    by : is_aloud b.telling ≡ true → (F : Frame) (scope : Scope) (G : Letters) (n : ℕ) (t : Option (Choice → Typ)) (ty : Option ℕ) → Surrounds as_declared F (sight b) G env scope → HasIfThere F (sight b) G t ty → MatchesAsIf b d env p seen matched.added matched.opens ty →
         FieldEnded env F scope (sight b) G (sight d) n (record { node = k; label = l; pattern = Some p }) seen t matched.added matched.opens
     by aloud F scope G n None None s has typed = let x = typed aloud F scope G s in record { carried = x.carried; done = x.done; names = x.names; scoped = scope_on x.carried.stays (recorded aloud) }
-    by aloud F scope G n (Some t) (Some m) s has typed = let x = typed aloud F scope G k 1 (used_by n t) s has in record { carried = x.carried; done = x.done; names = x.names; scoped = scope_on x.carried.stays (recorded aloud) }
+    by aloud F scope G n (Some t) (Some m) s has typed = let x = typed aloud F scope G k 1 t s has in record { carried = x.carried; done = x.done; names = x.names; scoped = scope_on x.carried.stays (recorded aloud) }
     by aloud F scope G n None (Some m) s has typed = absurd has
     by aloud F scope G n (Some t) None s has typed = absurd has
 
@@ -87,7 +90,7 @@ pub record FieldBegun (F : Frame) (scope : Scope) (a : Sight) (G : Letters) (b :
   pub inside : AreNodes letters b.nodes
   pub carried : Carried F scope (λ c. if is_there found then ask_once k 0 labels p else []) a G b (letters ++ G)
   pub none : F.known ≡ true → letters ≡ []
-  pub has_type : TakesAs F b (letters ++ G) n (type_in found p) ty
+  pub has_type : HasIfThere F b (letters ++ G) (type_in n k found p) ty
 
 pub field_begun : (a b : Parts) {F : Frame} {scope : Scope} {G : Letters} (n k : ℕ) (here : RecordHere) (found : Option rules.Declaration) (labels : List Name) (p : Written) (ty : Option ℕ) → is_aloud a.telling ≡ true → KnownAs F (sight a) G n here found → BeginsField here a b labels p ty →
     FieldBegun F scope (sight a) G (sight b) n k found labels p ty
@@ -96,7 +99,7 @@ field_begun a b {F} {scope} {G} n k None None labels p ty aloud known (none, sam
   inside = tt;
   carried = subst (λ z. Carried F scope (λ c. []) (sight a) G (sight z) G) (sym same) carried_refl;
   none = λ all_known. refl;
-  has_type = subst (TakesAs F (sight b) G n None) (sym none) tt;
+  has_type = subst (HasIfThere F (sight b) G None) (sym none) tt;
 }
 field_begun a b n k None (Some e) labels p ty aloud known begins = absurd known
 field_begun a b n k (Some r) None labels p ty aloud known begins = absurd known
@@ -105,18 +108,18 @@ field_begun a b {F} {scope} {G} n k (Some r) (Some e) labels p ty aloud known be
     record { letters = x.letters; inside = x.inside; carried = x.carried; none = x.none; has_type = x.has_type }
 
 -- the type of a field stays
-pub takes_on : {F : Frame} {a b : Sight} {G H : Letters} (n : ℕ) (t : Option Typ) (ty : Option ℕ) → Stays F a G b H → TakesAs F a G n t ty → TakesAs F b H n t ty
-takes_on n None None s h = tt
-takes_on n None (Some m) s h = h
-takes_on n (Some t) None s h = h
-takes_on n (Some t) (Some m) s h = means_on s h
+pub has_on : {F : Frame} {a b : Sight} {G H : Letters} (t : Option (Choice → Typ)) (ty : Option ℕ) → Stays F a G b H → HasIfThere F a G t ty → HasIfThere F b H t ty
+has_on None None s h = tt
+has_on None (Some m) s h = h
+has_on (Some t) None s h = h
+has_on (Some t) (Some m) s h = means_on s h
 
 -- what the calls of a field ask is what the definitions do
 field_asked : (c : Context) (n : ℕ) (found : Option rules.Declaration) (f : FieldPattern) (labels now : List Name) →
-    tell f.node c ++ (((if is_there found then ask_once f.node 0 labels f.label else []) ++ []) ++ field_rest c f now (option_map (used_at c n) (type_in found f.label))) ≡ match_field c n (is_there found) f labels now (field_type c n found f.label)
+    tell f.node c ++ (((if is_there found then ask_once f.node 0 labels f.label else []) ++ []) ++ field_rest c f now (chosen_in c (type_in n f.node found f.label))) ≡ match_field c n (is_there found) f labels now (field_type c n f.node found f.label)
 field_asked c n found f labels now =
     let e = append-nil (if is_there found then ask_once f.node 0 labels f.label else []) in
-    let t = field_is c n found f.label in
+    let t = field_is c n f.node found f.label in
     (λ i. tell f.node c ++ (e i ++ field_rest c f now (t i)))
 
 -- no field yet
@@ -139,11 +142,11 @@ fields_more a b mid told d env here all left rest f seen labels now after added 
       let H : Letters = first.opens ++ (K ++ G) in
       let y = field_begun b mid {scope = scope} n f.node here found labels f.label ty loud (known_on n here found x.carried.stays known) begins in
       let z = noted F scope (y.letters ++ H) in
-      let has = takes_on n (type_in found f.label) ty z.stays y.has_type in
+      let has = has_on (type_in n f.node found f.label) ty z.stays y.has_type in
       let outer : Surrounds as_declared F (sight a) (K ++ G) env scope = surrounds_on (stays_more K nodes) s in
       let begun = carried_trans y.carried z in
-      let w = ends.typed louder F scope (y.letters ++ H) n (type_in found f.label) (surrounds_on begun.stays (surrounds_on x.carried.stays outer)) has in
-      let one = λ (c : Context). match_field c n (is_there found) f labels now (field_type c n found f.label) in
+      let w = ends.typed louder F scope (y.letters ++ H) n (type_in n f.node found f.label) (surrounds_on begun.stays (surrounds_on x.carried.stays outer)) has in
+      let one = λ (c : Context). match_field c n (is_there found) f labels now (field_type c n f.node found f.label) in
       let both = carried_trans begun w.carried in
       let sees = surrounds_sees (surrounds_on x.carried.stays outer) in
       let from_start = told_at f.node w.scoped.number both w.scoped.at sees in
@@ -212,10 +215,17 @@ in_order_all a b env here all left names more seen labels after none first = rec
   typed = fields_all a b env here all left seen labels after first.added none first.typed;
 }
 
--- declarations that are one as records ask the same of fields
+-- declarations that are one as records give a field one type
+pub type_same : (c : Context) (n k : ℕ) (d e : rules.Declaration) → SameRecord d e → (p : Written) → field_type c n k (Some d) p ≡ field_type c n k (Some e) p
+type_same c n k d e s p =
+    let owner = s.owner in
+    let one = same_field s p in
+    sym (field_is c n k (Some d) p) ∙ (λ i. chosen_in c (option_map (used_in_record n k (owner i)) (one i))) ∙ field_is c n k (Some e) p
+
+-- and ask the same of fields
 pub fields_same : (c : Context) (n : ℕ) (d e : rules.Declaration) → SameRecord d e → (fs : List FieldPattern) (labels seen : List Name) → match_fields c n (Some d) fs labels seen ≡ match_fields c n (Some e) fs labels seen
 fields_same c n d e s [] labels seen = refl
 fields_same c n d e s (f ∷ fs) labels seen =
-    let t : field_type c n (Some d) f.label ≡ field_type c n (Some e) f.label = sym (field_is c n (Some d) f.label) ∙ ap (option_map (used_at c n)) (same_field s f.label) ∙ field_is c n (Some e) f.label in
+    let t = type_same c n f.node d e s f.label in
     let later = fields_same c n d e s fs (labels ++ name_in f.label) (seen ++ mentions_in_field f) in
     (λ i. match_field c n true f labels seen (t i) ++ later i)

@@ -71,7 +71,7 @@ module _ {nodes : List Node} {C : List ℕ} {N : Types} where
     what_so (of_module_type e h) = ap what_unset e
 
     entry_so : {e : Entry} {f : Named} → EntryAs R (DeclaredAs nodes C N) (ExceptionAs nodes C N) e f → what_unset e.what ≡ is_unset (option_map (λ r. r.0) (label_in f.stands_for))
-    entry_so (entry_as n k w) = what_so w
+    entry_so (entry_as n k p w) = what_so w
 
     found_so : {x : FoundAmong Entry} {y : FoundAmong Named} → ComesTo R (DeclaredAs nodes C N) (ExceptionAs nodes C N) x y → found_unset x ≡ is_unset (then_by (entry_of y) (λ f. option_map (λ r. r.0) (label_in f.stands_for)))
     found_so (to_entry h) = entry_so h

@@ -1,26 +1,25 @@
--- A field without a pattern of its own binds the name of its label, whose type is a letter of the field that stays open.
+-- A field without a pattern of its own binds the name of its label, whose type is that of the field's node: a letter that stays open.
 use Rattle.std.proofs.Common.{◌≡◌, ◌∙◌, ◌++◌, ℕ, zero, suc, true, List, [], ◌∷◌, take, Option, Some, None, refl, sym, ap, subst, append-nil, false}
 use Rattle.std.specs.Prelude.{slice_get}
 use Rattle.token_model.specs.Kinds.{Tok}
 use Rattle.type_model.specs.Types.{Typ}
-use Rattle.signature_model.specs.Declarations.{Name}
+use Rattle.signature_model.specs.Declarations.{Name, in_text}
 use Rattle.signature_model.specs.Matching.{IsKnown}
 use Rattle.typing_model.specs.Demands.{same, known}
 use Rattle.typing_model.specs.Contexts as contexts
 use Rattle.typing_model.specs.Contexts.{Choice, Context}
-use Rattle.typing_model.specs.Names.{used_at}
 use Rattle.typing_model.specs.Parts.{place_of}
 use Rattle.typing_model.specs.Patterns.{ask_fresh}
 use Rattle.type_terms.specs.declared.types.NodeRef.{NodeRef}
 use Rattle.env_table.specs.declared.entries.Entry.{Entry}
 use Rattle.typing_state.specs.declared.parts.Parts.{Parts}
-use Rattle.typing_conditions.specs.Sights.{Sight, Key, letter, without_unknown, value_of, Letters, IsKnownFor, own}
+use Rattle.typing_conditions.specs.Sights.{Sight, Key, without_unknown, value_of, Letters, IsKnownFor, own}
 use Rattle.typing_conditions.specs.Frames.{Frame, IsOpen}
 use Rattle.typing_conditions.specs.Meanings.{Means}
 use Rattle.typing_conditions.specs.Judging.{judgements}
 use Rattle.typing_conditions.specs.Carrying.{Scope, Stays, Carried}
 use Rattle.typing_conditions.specs.Surroundings.{Surrounds, IsEntry}
-use Rattle.typing_conditions.specs.Hiding.{plain_key, is_doubtful, row_of, AreOfRow}
+use Rattle.typing_conditions.specs.Hiding.{is_doubtful, NoneDoubtful, Owns}
 use Rattle.typing_conditions.proofs.Carried.{carried_trans, carried_as, take_none, done_as}
 use Rattle.typing_conditions.proofs.Framing.{open_on}
 use Rattle.typing_conditions.proofs.Meaning.{means_on}
@@ -28,10 +27,10 @@ use Rattle.typing_conditions.proofs.Behind.{IsTail, carried_behind}
 use Rattle.typing_conditions.proofs.Stays.{stays_trans, stays_opened, agrees_before}
 use Rattle.typing_steps.specs.States.{is_aloud, sight}
 use Rattle.typing_steps.specs.Typing.{as_declared}
-use Rattle.typing_steps.specs.Building.{TakesAs, used_by}
+use Rattle.typing_steps.specs.Building.{HasIfThere}
 use Rattle.pattern_rows.specs.Bounds.{Bind, AllBound, none_bound, one_bound}
 use Rattle.record_rows.specs.Fields.{GivesType, FieldEnded, PunsName, Puns, FieldAdds}
-use Rattle.typing_conditions.proofs.Hiding.{done_none, owns_row}
+use Rattle.typing_conditions.proofs.Hiding.{done_none, owns_also, owns_node}
 use Rattle.typing_conditions.proofs.Keeping.{all_among, carried_kept, kept_done, noted_sure}
 
 -- What a letter stands for is asked to be of no unknown type: it is of none from then on.
@@ -66,16 +65,9 @@ made_tail {F} {b} {H} {m} {type} key free p = record {
     silent zero c = refl
     silent (suc k) c = ap (judgements c.kept) (take_none k)
 
--- a letter for the type of such a field
-record IsPunned (k m : ℕ) (x : Key × ℕ) : Type 0 where
-  row : row_of x.0 ≡ k
-  sure : is_doubtful x.0 ≡ false
-  plain : plain_key x.0 ≡ letter k 0
-  node : x.1 ≡ m
-
--- the name of a label, once its type is a letter of the field in which no unknown type stands
-name_bound : {F : Frame} {d : Sight} {K : Letters} {e : Entry} (k : ℕ) (t : Tok) (ty : NodeRef) → IsEntry e t.name ty → IsOpen F d ty.0 →
-    AllBound F d ((without_unknown (letter k 0), ty.0) ∷ (letter k 0, ty.0) ∷ K) (record { name = t.name; place = place_of t; has_type = λ c. contexts.letter c k 0 } ∷ []) (record { token = t; node = ty; entry = e } ∷ [])
+-- the name of a label, once its type is that of the field's node, in which no unknown type stands
+name_bound : {F : Frame} {d : Sight} {K : Letters} {e : Entry} (k : ℕ) (t : Tok) (ty : NodeRef) → IsEntry e t.name (in_text (place_of t)) ty → IsOpen F d ty.0 →
+    AllBound F d ((without_unknown (own k), ty.0) ∷ (own k, ty.0) ∷ K) (record { name = t.name; place = place_of t; has_type = λ c. contexts.type_at c k } ∷ []) (record { token = t; node = ty; entry = e } ∷ [])
 name_bound k t ty entry here = one_bound (record {
   named = refl;
   placed = refl;
@@ -85,17 +77,15 @@ name_bound k t ty entry here = one_bound (record {
   entry = entry;
 }) none_bound
 
--- its two letters belong to its own row
-both_of_row : (k m : ℕ) → AreOfRow k ((without_unknown (letter k 0), m) ∷ (letter k 0, m) ∷ [])
-both_of_row k m = record { row = λ i x e. (is_one i x e).row; sure = λ i x e. (is_one i x e).sure; other = λ i x h e is. absurd (never h (sym (is_one i x e).plain ∙ is)); one = λ i j x y e f is. (is_one i x e).node ∙ sym (is_one j y f).node }
-  where
-    never : (h : ℕ) → letter k 0 ≡ own h → ⊥
-    never h e = cc
+-- its two letters are for the type of its node, and not in doubt
+both_sure : (k m : ℕ) → NoneDoubtful ((without_unknown (own k), m) ∷ (own k, m) ∷ [])
+both_sure k m zero x e = let s : (without_unknown (own k), m) ≡ x = cc in ap (λ (y : Key × ℕ). is_doubtful y.0) (sym s)
+both_sure k m (suc zero) x e = let s : (own k, m) ≡ x = cc in ap (λ (y : Key × ℕ). is_doubtful y.0) (sym s)
+both_sure k m (suc (suc i)) x e = absurd (cc)
 
-    is_one : (i : ℕ) (x : Key × ℕ) → slice_get ((without_unknown (letter k 0), m) ∷ (letter k 0, m) ∷ []) i ≡ Some x → IsPunned k m x
-    is_one zero x e = let s : (without_unknown (letter k 0), m) ≡ x = cc in subst (IsPunned k m) s (record { row = refl; sure = refl; plain = refl; node = refl })
-    is_one (suc zero) x e = let s : (letter k 0, m) ≡ x = cc in subst (IsPunned k m) s (record { row = refl; sure = refl; plain = refl; node = refl })
-    is_one (suc (suc i)) x e = absurd (cc)
+-- so it owns them
+both_owned : {b : Sight} {hidden : Letters} (k m : ℕ) → Owns k m b hidden ((without_unknown (own k), m) ∷ (own k, m) ∷ [])
+both_owned k m = owns_also (without_unknown (own k)) refl refl (owns_node (own k) refl refl)
 
 -- A field whose label is there: its name is new, its type is the field's, or any type where that isn't known.
 module _ (a d : Parts) (env : List Entry) (k : ℕ) (qs : List Tok) (t : Tok) (names names' : List Bind) (seen seen' : List Name) where
@@ -104,11 +94,11 @@ module _ (a d : Parts) (env : List Entry) (k : ℕ) (qs : List Tok) (t : Tok) (n
   between_aloud x aloud = ap is_aloud x.binds.goes.telling ∙ ap is_aloud x.goes.telling ∙ aloud
 
   -- its name, and the letters
-  pun_named : (wanted : Option ℕ) (x : PunsName a d env k t wanted names names' seen seen') → is_aloud a.telling ≡ true → (F : Frame) (scope : Scope) (G : Letters) (n : ℕ) (o : Option Typ) → Surrounds as_declared F (sight a) G env scope → TakesAs F (sight a) G n o wanted →
+  pun_named : (wanted : Option ℕ) (x : PunsName a d env k t wanted names names' seen seen') → is_aloud a.telling ≡ true → (F : Frame) (scope : Scope) (G : Letters) (n : ℕ) (o : Option (Choice → Typ)) → Surrounds as_declared F (sight a) G env scope → HasIfThere F (sight a) G o wanted →
       GivesType wanted a x.mid x.ty.0 → FieldEnded env F scope (sight a) G (sight d) n (record { node = k; label = record { qualifiers = qs; last = Some t }; pattern = None }) seen o (record { token = t; node = x.ty; entry = x.binds.entry } ∷ [])
-      ((without_unknown (letter k 0), x.ty.0) ∷ (letter k 0, x.ty.0) ∷ [])
+      ((without_unknown (own k), x.ty.0) ∷ (own k, x.ty.0) ∷ [])
   pun_named None x aloud F scope G n None s has given =
-      let key = letter k 0 in
+      let key = own k in
       let m = x.ty.0 in
       let v = given F scope G key (λ u. tt) s.reached in
       let y = x.binds.fresh (ap is_aloud x.goes.telling ∙ aloud) F scope ((key, m) ∷ G) k 1 in
@@ -117,30 +107,29 @@ module _ (a d : Parts) (env : List Entry) (k : ℕ) (qs : List Tok) (t : Tok) (n
       let w = x.binds.noted.asks F scope (letters ++ G) in
       let here = open_on (stays_trans z.stays w.stays) v.means.open_node in
       let front = carried_trans v.carried z in
-      let sure = noted_sure letters front w (x.binds.noted.hides F scope (letters ++ G)) (x.binds.noted.notes (between_aloud x aloud) m) (owns_row (both_of_row k m)) in
+      let sure = noted_sure letters front w (x.binds.noted.hides F scope (letters ++ G)) (x.binds.noted.notes (between_aloud x aloud) m) (both_owned k m) in
       let kept = carried_kept letters letters (all_among letters) (carried_trans front w) sure in
       record {
-        carried = carried_as (λ c. append-nil (ask_fresh k 1 seen t ++ known (contexts.letter c k 0) ∷ [])) kept;
-        done = done_as _ kept (kept_done letters (carried_trans front w) sure (both_of_row k m).sure);
+        carried = carried_as (λ c. append-nil (ask_fresh k 1 seen t ++ known (contexts.type_at c k) ∷ [])) kept;
+        done = done_as _ kept (kept_done letters (carried_trans front w) sure (both_sure k m));
         names = λ H r. name_bound k t x.ty x.binds.is_entry here;
         scoped = x.binds.noted.scope (between_aloud x aloud);
       }
   pun_named (Some f) x aloud F scope G n (Some o) s has (is, same_state) =
-      let key = letter k 0 in
+      let key = own k in
       let m = x.ty.0 in
-      let there : Means F (sight x.mid) G (used_by n o) m = subst (λ q. Means F (sight q) G (used_by n o) m) (sym same_state) (subst (Means F (sight a) G (used_by n o)) (sym is) has) in
       let y : Carried F scope (λ c. ask_fresh k 1 seen t) (sight a) G (sight x.binds.between) G =
       subst (λ q. Carried F scope (λ c. ask_fresh k 1 seen t) (sight q) G (sight x.binds.between) G) same_state (x.binds.fresh (ap is_aloud x.goes.telling ∙ aloud) F scope G k 1) in
-      let has_it : Means F (sight a) G (used_by n o) m = subst (Means F (sight a) G (used_by n o)) (sym is) has in
+      let has_it : Means F (sight a) G o m = subst (Means F (sight a) G o) (sym is) has in
       let letters : Letters = (without_unknown key, m) ∷ (key, m) ∷ [] in
       let front = carried_behind y (made_tail key (λ u. tt) (means_on y.stays has_it)) (λ c. (_, _, _, refl)) in
       let w = x.binds.noted.asks F scope (letters ++ G) in
       let here = open_on (stays_trans front.stays w.stays) has_it.open_node in
-      let sure = noted_sure letters front w (x.binds.noted.hides F scope (letters ++ G)) (x.binds.noted.notes (between_aloud x aloud) m) (owns_row (both_of_row k m)) in
+      let sure = noted_sure letters front w (x.binds.noted.hides F scope (letters ++ G)) (x.binds.noted.notes (between_aloud x aloud) m) (both_owned k m) in
       let kept = carried_kept letters letters (all_among letters) (carried_trans front w) sure in
       record {
-        carried = carried_as (λ c. append-nil (ask_fresh k 1 seen t ++ known (contexts.letter c k 0) ∷ same (contexts.letter c k 0) (used_at c n o) ∷ [])) kept;
-        done = done_as _ kept (kept_done letters (carried_trans front w) sure (both_of_row k m).sure);
+        carried = carried_as (λ c. append-nil (ask_fresh k 1 seen t ++ known (contexts.type_at c k) ∷ same (contexts.type_at c k) (o c.chosen) ∷ [])) kept;
+        done = done_as _ kept (kept_done letters (carried_trans front w) sure (both_sure k m));
         names = λ H r. name_bound k t x.ty x.binds.is_entry here;
         scoped = x.binds.noted.scope (between_aloud x aloud);
       }
@@ -159,7 +148,7 @@ pun_ends a d env k qs (Some t) names names' seen seen' wanted x = record {
   added = record { token = t; node = x.ty; entry = x.binds.entry } ∷ [];
   adds = x.binds.adds;
   typed = record {
-    opens = (without_unknown (letter k 0), x.ty.0) ∷ (letter k 0, x.ty.0) ∷ [];
+    opens = (without_unknown (own k), x.ty.0) ∷ (own k, x.ty.0) ∷ [];
     typed = λ aloud F scope G n o s has. pun_named a d env k qs t names names' seen seen' wanted x aloud F scope G n o s has x.given;
   };
 }

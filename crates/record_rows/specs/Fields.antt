@@ -3,11 +3,10 @@ use Rattle.std.specs.Prelude.{◌≡◌, ℕ, true, List, [], ◌∷◌, ◌++�
 use Rattle.token_model.specs.Kinds.{Tok}
 use Rattle.type_model.specs.Types.{Typ}
 use Rattle.signature_model.specs.Declarations as rules
-use Rattle.signature_model.specs.Declarations.{Name, type_of}
+use Rattle.signature_model.specs.Declarations.{Name, in_text, type_of}
 use Rattle.typing_model.specs.Demands.{Condition, equal}
-use Rattle.typing_model.specs.Contexts.{Context, Bound, ask, type_at}
-use Rattle.typing_model.specs.Names.{used_at}
-use Rattle.typing_model.specs.Parts.{Written, FieldPattern}
+use Rattle.typing_model.specs.Contexts.{Choice, Context, Bound, ask, type_at}
+use Rattle.typing_model.specs.Parts.{Written, FieldPattern, place_of}
 use Rattle.typing_model.specs.Patterns.{match_pun, match_fields, names_in_field, mentions_in_field}
 use Rattle.type_terms.specs.declared.types.NodeRef.{NodeRef}
 use Rattle.env_table.specs.declared.entries.Declaration.{Declaration}
@@ -22,7 +21,7 @@ use Rattle.typing_conditions.specs.Surroundings.{Surrounds, IsEntry}
 use Rattle.typing_conditions.specs.Hiding.{AreDone}
 use Rattle.typing_steps.specs.States.{is_aloud, sight}
 use Rattle.typing_steps.specs.Typing.{as_declared, TypesAny}
-use Rattle.typing_steps.specs.Building.{used_by, TakesAs}
+use Rattle.typing_steps.specs.Building.{used_by, HasIfThere}
 use Rattle.record_steps.specs.Recording.{StandsFor, IsUseOf, TypesField, HasScope, NotesScope, NotesNode}
 use Rattle.pattern_rows.specs.Bounds.{Bind, AllBound, Adds}
 use Rattle.pattern_rows.specs.Contracts.{AsksFresh}
@@ -53,14 +52,18 @@ abbrev pub mentions_of_fields : List FieldPattern → List Name
 mentions_of_fields [] = []
 mentions_of_fields (f ∷ fs) = mentions_in_field f ++ mentions_of_fields fs
 
+-- the type that is chosen, where there is one
+abbrev pub chosen_in : Context → Option (Choice → Typ) → Option Typ
+chosen_in c t = option_map (λ u. u c.chosen) t
+
 -- what is asked of a field after its label, by the type of the field
 abbrev pub field_rest : Context → FieldPattern → List Name → Option Typ → List Condition
 field_rest c f seen t = elim f.pattern [ None ↦ match_pun c f seen t | Some p ↦ p.matched c seen ++ elim t [ None ↦ [] | Some t ↦ ask f.node 1 p.at (equal (type_at c p.node) t) ] ]
 
--- This was carried, with letters that stay open, where a field of a record, used at its node n, has this type. Its names stand for those that it binds, whatever other letters
+-- This was carried, with letters that stay open, where a field of a record has this type. Its names stand for those that it binds, whatever other letters
 -- are open. The names in scope are recorded for its node by then.
-pub record FieldEnded (env : List Entry) (F : Frame) (scope : Scope) (a : Sight) (G : Letters) (b : Sight) (n : ℕ) (f : FieldPattern) (seen : List Name) (t : Option Typ) (added : List Bind) (opens : Letters) : Type 0 where
-  pub carried : Carried F scope (λ c. field_rest c f seen (option_map (used_at c n) t)) a G b (opens ++ G)
+pub record FieldEnded (env : List Entry) (F : Frame) (scope : Scope) (a : Sight) (G : Letters) (b : Sight) (n : ℕ) (f : FieldPattern) (seen : List Name) (t : Option (Choice → Typ)) (added : List Bind) (opens : Letters) : Type 0 where
+  pub carried : Carried F scope (λ c. field_rest c f seen (chosen_in c t)) a G b (opens ++ G)
   pub done : AreDone b carried.hidden opens
   pub names : (H : Letters) → Surrounds as_declared F a H env scope → AllBound F b (opens ++ H) (names_in_field n f) added
   pub scoped : HasScope b f.node env
@@ -68,7 +71,7 @@ pub record FieldEnded (env : List Entry) (F : Frame) (scope : Scope) (a : Sight)
 -- the same of a call, where faults are reported; it opens the same letters whatever surrounds it
 pub record EndsField (a b : Parts) (env : List Entry) (f : FieldPattern) (seen : List Name) (added : List Bind) (ty : Option ℕ) : Type 0 where
   pub opens : Letters
-  pub typed : is_aloud a.telling ≡ true → (F : Frame) (scope : Scope) (G : Letters) (n : ℕ) (t : Option Typ) → Surrounds as_declared F (sight a) G env scope → TakesAs F (sight a) G n t ty → FieldEnded env F scope (sight a) G (sight b) n f seen t added opens
+  pub typed : is_aloud a.telling ≡ true → (F : Frame) (scope : Scope) (G : Letters) (n : ℕ) (t : Option (Choice → Typ)) → Surrounds as_declared F (sight a) G env scope → HasIfThere F (sight a) G t ty → FieldEnded env F scope (sight a) G (sight b) n f seen t added opens
 
 -- the same with the names that are added
 pub record FieldAdds (a b : Parts) (env : List Entry) (f : FieldPattern) (names names' : List Bind) (seen seen' : List Name) (ty : Option ℕ) : Type 0 where
@@ -87,7 +90,7 @@ pub record BindsLabel (a d : Parts) (env : List Entry) (k : ℕ) (t : Tok) (ty :
   pub entry : Entry
   pub fresh : AsksFresh a between t seen
   pub goes : Goes a between
-  pub is_entry : IsEntry entry t.name ty
+  pub is_entry : IsEntry entry t.name (in_text (place_of t)) ty
   pub noted : NotesNode between d k env
   pub adds : Adds names names' (record { token = t; node = ty; entry = entry } ∷ []) seen seen' (t.name ∷ [])
 

@@ -1,11 +1,10 @@
 -- What the fields of a record expression carry, one after the other.
-use Rattle.std.specs.Prelude.{◌≡◌, ℕ, true, List, [], ◌++◌, Option, Some, None, option_map}
+use Rattle.std.specs.Prelude.{◌≡◌, ℕ, true, List, [], ◌++◌, Option, Some, None}
 use Rattle.type_model.specs.Types.{Typ}
 use Rattle.signature_model.specs.Declarations as rules
 use Rattle.signature_model.specs.Declarations.{Name}
 use Rattle.typing_model.specs.Demands.{Condition}
-use Rattle.typing_model.specs.Contexts.{Context}
-use Rattle.typing_model.specs.Names.{used_at}
+use Rattle.typing_model.specs.Contexts.{Choice, Context}
 use Rattle.typing_model.specs.Parts.{Field}
 use Rattle.typing_model.specs.Records.{name_in}
 use Rattle.typing_model.specs.Expressions.{has_type, pun_asks, fields_ask, names_of_labels}
@@ -19,24 +18,24 @@ use Rattle.typing_conditions.specs.Surroundings.{Surrounds}
 use Rattle.typing_conditions.specs.Hiding.{AreDone}
 use Rattle.typing_steps.specs.States.{is_aloud, sight}
 use Rattle.typing_steps.specs.Typing.{as_declared}
-use Rattle.typing_steps.specs.Building.{TakesAs}
+use Rattle.typing_steps.specs.Building.{HasIfThere}
 use Rattle.record_steps.specs.Recording.{AsksNothing, HasScope}
-use Rattle.record_rows.specs.Fields.{RecordHere, KnownAs, BeginsField}
+use Rattle.record_rows.specs.Fields.{RecordHere, KnownAs, BeginsField, chosen_in}
 
 -- what a field's value asks: an expression, or the name of its label; it has the field's type, where there is one
 abbrev pub value_asked : Context → Field → Option Typ → List Condition
 value_asked c f t = elim f.value [ None ↦ pun_asks c f t | Some e ↦ e.typed c ++ elim t [ None ↦ [] | Some t ↦ has_type c f.node 2 e t ] ]
 
 -- the value of a field is typed, with letters of its own; the names in scope are recorded for its node by then
-pub record ValueTyped (F : Frame) (scope : Scope) (a : Sight) (G : Letters) (b : Sight) (env : List Entry) (f : Field) (n : ℕ) (t : Option Typ) : Type 0 where
+pub record ValueTyped (F : Frame) (scope : Scope) (a : Sight) (G : Letters) (b : Sight) (env : List Entry) (f : Field) (t : Option (Choice → Typ)) : Type 0 where
   pub letters : Letters
-  pub carried : Carried F scope (λ c. value_asked c f (option_map (used_at c n) t)) a G b (letters ++ G)
+  pub carried : Carried F scope (λ c. value_asked c f (chosen_in c t)) a G b (letters ++ G)
   pub done : AreDone b carried.hidden letters
   pub scoped : HasScope b f.node env
 
--- the same of a call, whatever type of the record's node n the field has
+-- the same of a call, whatever type the field has
 abbrev pub TypesValue : (a b : Parts) → List Entry → Field → Option ℕ → Type 0
-TypesValue a b env f ty = is_aloud a.telling ≡ true → (F : Frame) (scope : Scope) (G : Letters) (n : ℕ) (t : Option Typ) → Surrounds as_declared F (sight a) G env scope → TakesAs F (sight a) G n t ty → ValueTyped F scope (sight a) G (sight b) env f n t
+TypesValue a b env f ty = is_aloud a.telling ≡ true → (F : Frame) (scope : Scope) (G : Letters) (t : Option (Choice → Typ)) → Surrounds as_declared F (sight a) G env scope → HasIfThere F (sight a) G t ty → ValueTyped F scope (sight a) G (sight b) env f t
 
 -- fields are typed, after labels that were written before
 pub record FieldsTyped (F : Frame) (scope : Scope) (a : Sight) (G : Letters) (b : Sight) (n : ℕ) (found : Option rules.Declaration) (labels : List Name) (fs : List Field) : Type 0 where

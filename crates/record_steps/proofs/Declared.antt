@@ -112,7 +112,7 @@ module _ (R : ℕ → Scheme → Type 0) (D : Declaration → rules.Declaration 
     pub labels : (ls : List rules.Label) × (owner.shape ≡ rules.Labels ls)
 
   entry_record : {e : Entry} {f : Named} → EntryAs R D X e f → kind_of e.kind ≡ label_kind → FindsRecord e (an_entry f)
-  entry_record (entry_as {f = f} n k w) is =
+  entry_record (entry_as {f = f} n k p w) is =
       let h = what_record w (k ∙ is) in record { declared = h.declared; place = h.place; here = h.here; owner = h.owner; is = ap (option_map (λ (r : rules.Declaration × rules.Label). r.0)) h.is; alike = h.alike; labels = h.labels }
 
   found_record : {x : FoundAmong Entry} {y : FoundAmong Named} (e : Entry) → x ≡ an_entry e → kind_of e.kind ≡ label_kind → ComesTo R D X x y → FindsRecord e y

@@ -55,7 +55,7 @@ module _ (R : ℕ → Scheme → Type 0) (D : Declaration → rules.Declaration 
     record_type : code.record_of e ≡ record_of_label f.stands_for
 
   label_alike : {e : Entry} {f : Named} → EntryAs R D X e f → LabelAlike e f
-  label_alike (entry_as {e = e} name k w) = record { name = sym name; record_type = type_alike e.kind w k }
+  label_alike (entry_as {e = e} name k p w) = record { name = sym name; record_type = type_alike e.kind w k }
 
   chosen : {e : Entry} {f : Named} {x : Option Entry} {y : Option Named} (a b : Bool) → a ≡ b → EntryAs R D X e f → FoundAs R D X x y → FoundAs R D X (if a then Some e else x) (if b then Some f else y)
   chosen true true p h r = both h

@@ -7,5 +7,6 @@ pub mod Demanded
 pub mod Typed
 pub mod Joined
 pub mod Named
+pub mod InRecord
 pub mod Fielded
 pub mod Noted

@@ -10,8 +10,9 @@ use Rattle.signature_model.specs.Declarations.{Name, type_of}
 use Rattle.signature_model.specs.Lookups.{FoundAmong}
 use Rattle.signature_model.specs.Records.{record_by}
 use Rattle.typing_model.specs.Parts as parts
+use Rattle.typing_model.specs.Contexts.{Choice}
 use Rattle.typing_model.specs.Names.{then_by}
-use Rattle.typing_model.specs.Records.{is_among, ask_record, ask_once, find_label, labels_in, labels_of}
+use Rattle.typing_model.specs.Records.{is_among, ask_record, ask_once, find_label, labels_in, labels_of, used_in_record}
 use Rattle.typing_model.specs.Patterns.{kept_record}
 use Rattle.type_nodes.specs.Nodes.{Arrow, Tuple, IsNode, IsSound}
 use Rattle.type_nodes.specs.Links.{reading}
@@ -41,7 +42,7 @@ use Rattle.typing_conditions.specs.Surroundings.{Surrounds}
 use Rattle.typing_steps.specs.States.{is_aloud, sight}
 use Rattle.typing_steps.specs.Demands.{TestedAs}
 use Rattle.typing_steps.specs.Typing.{as_declared}
-use Rattle.typing_steps.specs.Building.{InEach, TakesAs, used_by}
+use Rattle.typing_steps.specs.Building.{InEach, HasIfThere, used_by}
 use Rattle.record_steps.specs.Alike.{IsOneWith}
 use Rattle.record_steps.specs.Named.{labels_here, label_here}
 
@@ -156,14 +157,18 @@ TypesNoRecord a b env ps = is_aloud a.telling ≡ true → (F : Frame) (scope : 
 abbrev pub field_in : List rules.Label → parts.Written → Option Typ
 field_in ls p = then_by p.last (λ t. option_map (λ l. l.body) (find_label t.name ls))
 
--- A field's label is asked to be new among others, of which nothing else is asked; the node of its type has the type of its label as it is used at the record's node n.
--- `none`: where all of names is known the record's letters are the field's.
+-- the same as it is used at the field's node, in the record at the node n
+abbrev pub field_used_in : ℕ → ℕ → rules.Declaration → parts.Written → Option (Choice → Typ)
+field_used_in n field e p = option_map (used_in_record n field (type_of e)) (field_in (labels_in e.shape) p)
+
+-- A field's label is asked to be new among others, of which nothing else is asked; the node of its type has the type of its label as it is used at the field's node, in the record at
+-- the node n. `none`: where all of names is known the record's letters are the field's.
 pub record FieldTyped (F : Frame) (scope : Scope) (a : Sight) (G : Letters) (b : Sight) (n field : ℕ) (seen : List Name) (p : parts.Written) (e : rules.Declaration) (ty : Option ℕ) : Type 0 where
   pub letters : Letters
   pub inside : AreNodes letters b.nodes
   pub carried : Carried F scope (λ c. ask_once field 0 seen p) a G b (letters ++ G)
   pub none : F.known ≡ true → letters ≡ []
-  pub has_type : TakesAs F b (letters ++ G) n (field_in (labels_in e.shape) p) ty
+  pub has_type : HasIfThere F b (letters ++ G) (field_used_in n field e p) ty
 
 -- What the beginning of a field carries, where faults are reported, of a record type that is known by a declaration, with the node of its type.
 abbrev pub TypesField : (a b : Parts) → Declaration → (m : ℕ) → List Name → parts.Written → Option ℕ → Type 0

@@ -125,7 +125,7 @@ field_pattern_heard {ts} f s = record { matches = λ c n is_found names seen t. 
 fields_heard : {ts : List Typed} (c : Context) (n : ℕ) (found : Option Declaration) {fs : List FieldPattern} (names seen : List Name) → Heards HeardFieldPattern ts fs → Tells (types_in c) ts (match_fields c n found fs names seen)
 fields_heard c n found names seen no_one = nothing
 fields_heard c n found names seen (one_and {x = f} s rest) =
-    join (s.matches c n _ names seen (field_type c n found f.label)) (fields_heard c n found (names ++ name_in f.label) (seen ++ mentions_in_field f) rest)
+    join (s.matches c n _ names seen (field_type c n f.node found f.label)) (fields_heard c n found (names ++ name_in f.label) (seen ++ mentions_in_field f) rest)
 
 -- the node has the type of a record, if it is found
 abbrev is_of_record : Context → ℕ → Option Declaration → List Condition

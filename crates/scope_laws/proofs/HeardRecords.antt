@@ -37,7 +37,7 @@ field_heard {ts} f s = record { asks = λ c is_found names t. by ts c is_found n
 -- fields in order
 fields_heard : {ts : List Typed} (c : Context) (n : ℕ) (found : Option Declaration) {fs : List Field} (names : List Name) → Heards HeardField ts fs → Tells (types_in c) ts (fields_ask c n found fs names)
 fields_heard c n found names no_one = nothing
-fields_heard c n found names (one_and {x = f} s rest) = join (s.asks c (is_some found) names (field_type c n found f.label)) (fields_heard c n found (names ++ name_in f.label) rest)
+fields_heard c n found names (one_and {x = f} s rest) = join (s.asks c (is_some found) names (field_type c n f.node found f.label)) (fields_heard c n found (names ++ name_in f.label) rest)
 
 -- the fields of a record behind what a first part asks that is none
 record_asked : {ts us vs : List Typed} (c : Context) (n : ℕ) (q : Place) {fs : List Field} {xs ys : List Condition} → Tells (types_in c) ts xs → Tells (types_in c) us ys → Heards HeardField vs fs → Tells (types_in c) ((ts ++ us) ++ vs) (record_asks c n q xs ys fs)

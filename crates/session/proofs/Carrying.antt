@@ -8,6 +8,7 @@ use Rattle.syntax_tree.specs.Tallies.{Tallies, counted}
 use Rattle.syntax_tree.specs.View.{node_view, trees_of}
 use Rattle.frame_parser.specs.declared.whole.Parsed.{Parsed}
 use Rattle.analysis_api.specs.Typed.{more_typed, GoesOn, LongestFront, SameFront}
+use Rattle.analysis_api.specs.declared.Analyser.{Ghosts}
 use Rattle.text_reading.specs.Structures.{AreItemsOf}
 use Rattle.text_reading.specs.Types.{held, known}
 use Rattle.text_reading.specs.declared.types.KeptTypes.{KeptTypes}
@@ -63,7 +64,7 @@ types_after old mid new a b c text holds typed (inr (n, are, longest, is)) = inr
 )
 
 -- a typer that was given the tree of the text
-pub types_anew : {A T E : Type 0} (items : A → List Tree) (r : Result T E) (old new : Held) (before after : KeptTypes A) (text : List ℕ) (p : Parsed) (a b : Tallies) → text ≡ old.text → held items before ≡ old.holds → held items after ≡ new.holds
+pub types_anew : {A T E : Type 0} {g : Ghosts A} (items : A → List Tree) (r : Result T E) (old new : Held) (before after : KeptTypes A g) (text : List ℕ) (p : Parsed) (a b : Tallies) → text ≡ old.text → held items before ≡ old.holds → held items after ≡ new.holds
     → AreItemsOf text (trees_of p.tree) → OnOk r (known items after ≡ Some (trees_of p.tree))
     → OnOk r ((n : ℕ) × LongestFront (held items before) (trees_of p.tree) n × (b.typed ≡ more_typed (length p.tree.items.items - n) a.typed)) → OnOk r (Types old new a b)
 types_anew items (Ok x) old new before after text p a b same were are own there (n, longest, typed) =

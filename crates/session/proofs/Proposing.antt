@@ -4,7 +4,6 @@ use Rattle.std.proofs.lemmas.List.{nil_from_length}
 use Rattle.std.proofs.lemmas.List.Elements.{All-contains, All-nil, All-weaker}
 use Rattle.std.specs.declared.alloc.AllocError.{AllocError}
 use Rattle.text_terms.specs.Bytes.{str_bytes}
-use Rattle.text_terms.specs.declared.Span.{Span}
 use Rattle.text_model.specs.Edits.{apply, text_limit}
 use Rattle.tree_model.specs.Trees.{Place, Tree}
 use Rattle.query_model.specs.TypedNodes.{Typed, innermost_at}
@@ -12,10 +11,8 @@ use Rattle.service_model.specs.Replies as said
 use Rattle.service_model.specs.Answers.{ItemsAre}
 use Rattle.syntax_tree.specs.View.{trees_of}
 use Rattle.work_model.specs.Work.{IsTried}
-use Rattle.query_engine.specs.Typed.{IsPlacedAt}
 use Rattle.query_engine.specs.declared.trials.Replacement.{Replacement}
 use Rattle.asked_node.specs.Trials.{replaced, AreReplaced, IsReplaced}
-use Rattle.construct_terms.specs.Terms.{IsAt}
 use Rattle.frame_parser.specs.declared.whole.Parsed.{Parsed}
 use Rattle.json_lines.specs.Means.{said_of}
 use Rattle.json_lines.specs.declared.reply.Reply.{Reply}

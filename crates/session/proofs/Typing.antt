@@ -1,31 +1,30 @@
 -- What is said of types and of faults.
-use Rattle.std.proofs.Common.{◌≡◌, ℕ, List, [], ◌∷◌, ◌++◌, length, map, append-nil, refl, sym, ◌∙◌, ap, subst, Bool, true, false, ◌&&◌, Result, Ok, Err, IfOk}
+use Rattle.std.proofs.Common.{◌≡◌, ℕ, List, [], ◌∷◌, ◌++◌, length, map, append-nil, sym, ◌∙◌, ap, subst, true, false, Result, Ok, Err, IfOk}
 use Rattle.std.specs.Prelude.{Some, None, option_map, reverse}
 use Rattle.std.specs.List.{AllZip}
-use Rattle.std.proofs.Math.Logic.{∥∥₁_map}
+use Rattle.std.proofs.Math.Logic.{∥∥₁_elim, ∥∥₁_map}
+use Rattle.std.proofs.Props.{props}
 use Rattle.std.specs.declared.alloc.AllocError.{AllocError}
 use Rattle.tree_model.specs.Nodes.{nodes_at}
 use Rattle.tree_model.specs.Trees.{Tree}
 use Rattle.plain_model.specs.Plain.{AllSeenWithin}
 use Rattle.plain_model.proofs.Within.{seen_within}
-use Rattle.query_model.specs.Faults.{TyperFault, by_typer, warning, source_of}
+use Rattle.query_model.specs.Faults.{TyperFault, by_typer}
 use Rattle.query_model.specs.TypedNodes.{Typed, typed_at}
-use Rattle.typing_model.specs.Typable.{AreTypable, IsTypable}
-use Rattle.fault_model.specs.Refused.{standing, AreOfValues, IsOfValues, AreRefused}
+use Rattle.typing_model.specs.Typable.{AreTypable}
+use Rattle.fault_model.specs.Refused.{standing, AreOfValues, AreRefused}
 use Rattle.service_model.specs.Replies as said
-use Rattle.service_model.specs.Structure.{faults_in, faults_said, items_in, AreWarnings, ErrorsAre, ErrorsBy, FaultsAre, TyperFaults}
+use Rattle.service_model.specs.Structure.{faults_in, faults_said, items_in, ErrorsAre, ErrorsBy, FaultsAre, TyperFaults}
 use Rattle.service_model.specs.Answers.{EnclosingBy, EnclosingIs, ShownTypes, TypesAre, shown_place, start_and_end, typed_among, typed_round, types_or_none}
 use Rattle.token_laws.proofs.Ones.{lex_one}
 use Rattle.syntax_tree.specs.View.{trees_of}
 use Rattle.frame_parser.specs.declared.whole.Parsed.{Parsed}
 use Rattle.plain_typing.specs.View.{seen_of}
-use Rattle.text_queries.specs.Faults.{fault_of, kind_of, typer_fault_of}
+use Rattle.text_queries.specs.Faults.{fault_of, typer_fault_of}
 use Rattle.env_table.specs.declared.faults.Fault as typer
-use Rattle.env_table.specs.declared.faults.FaultKind.{FaultKind}
-use Rattle.env_table.specs.declared.faults.FaultKind.TheVariants as kind
 use Rattle.analysis_api.specs.Warnings as api
 use Rattle.analysis_api.specs.declared.Analysis.{Analysis}
-use Rattle.analysis_api.specs.Types.{AreTyped}
+use Rattle.analysis_api.specs.Types.{AreSettled}
 use Rattle.typed_model.specs.Shown.{AreShown}
 use Rattle.shown_laws.proofs.Shown.{round_shown, Asks}
 use Rattle.query_engine.specs.Typed.{IsNoNode, span_of}
@@ -134,7 +133,7 @@ no_types text o a (fault.Unbound ident) s none is = absurd none
 no_types text o a fault.NoMemory s none is = cc
 
 -- So what is said is what is known of the types of a text, by an analysis of its items.
-pub types_known : (text : List ℕ) (o : ℕ) (a : Asked) (x : Analysis) (s : said.Said) → AreItemsOf text (trees_of a.tree.now) → Asks a x → (AreOfValues (trees_of a.tree.now) → ∥ AreTyped (trees_of a.tree.now) x ∥₁) →
+pub types_known : (text : List ℕ) (o : ℕ) (a : Asked) (x : Analysis) (s : said.Said) → AreItemsOf text (trees_of a.tree.now) → Asks a x → (AreOfValues (trees_of a.tree.now) → ∥ AreSettled (trees_of a.tree.now) x ∥₁) →
     AreTypesBy text o a s → TypesAre text o (trees_of a.tree.now) s
 unfolding items_in
 types_known text o a x s of asks typed by = (by.types, by.places, shown, by.is)
@@ -150,3 +149,12 @@ types_known text o a x s of asks typed by = (by.types, by.places, shown, by.is)
 pub said_then : (P Q : said.Said → Type 0) (r : Result Reply AllocError) → ((s : said.Said) → P s → Q s) → IfOk r (λ x. P (said_of x)) → IfOk r (λ x. Q (said_of x))
 said_then P Q (Ok x) then is = then (said_of x) is
 said_then P Q (Err e) then is = tt
+
+-- what a call gives of what is known, where something is known
+pub given_known : {A E K : Type 0} (P : A → Type 0) (r : Result A E) → ∥ K ∥₁ → (K → IfOk r P) → IfOk r (λ a. ∥ P a ∥₁)
+given_known P (Ok a) known gives = ∥∥₁_map known gives
+given_known P (Err e) known gives = tt
+
+-- and what follows of it
+pub so_known : {K V W : Type 0} → ∥ K ∥₁ → (K → V → ∥ W ∥₁) → V → ∥ W ∥₁
+so_known known gives v = ∥∥₁_elim known (hlevel props) (λ k. gives k v)

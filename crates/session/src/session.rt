@@ -27,7 +27,7 @@ ghost use Rattle.json_lines.specs.Means.{outline_of, outlined_of, said_of, typed
 ghost use Rattle.kept_text.specs.Keeping.{sooner};
 ghost use Rattle.text_reading.specs.Structures.{AreItemsOf};
 ghost use Rattle.asked_node.specs.Trials.{AreReplaced};
-ghost use Rattle.text_reading.specs.Types.{items_in};
+ghost use Rattle.text_reading.specs.Types.{holds_in, items_in};
 ghost use Rattle.text_changes.specs.Changes.{candidates_in, changes_in, is_said, ArePlaced, AreSaidOf, FitsText, IsSaidOf};
 ghost use Rattle.session.specs.Queries.{AreFaultsOf, AreTypesBy, AreTypesRound, IsAnswered, IsNotPlain, MayBeIllTyped};
 ghost use Rattle.session.specs.Lines.{line_bytes, refusal_in, IsWritten, RefusesBy, RefusesEditBy, RepliesBy, Says};
@@ -495,6 +495,7 @@ impl<A: Analyser> Session<A> {
     fn typed<C: Counts>(&self, tree: &Tree, counts: &mut C) -> Result<Found<'_, A>, NoMemory>
         requires of_text { AreItemsOf self.now.text (trees_of tree.now) }
         ensures items { IfOk result (λ f. items_in A.items f ≡ trees_of tree.now) }
+        ensures settled { IfOk result (λ f. ∥ holds_in A.is_settled f ∥₁) }
         ensures idle { self.now.known ≡ true → C.tallies counts.new ≡ C.tallies counts.old }
         ensures counted { Grows (C.tallies counts.old) (C.tallies counts.new) }
     {

@@ -6,7 +6,7 @@ use Rattle.type_model.specs.Types.{Typ, Arrow, Tuple}
 use Rattle.type_model.specs.Schemes.{Scheme}
 use Rattle.signature_model.specs.Declarations.{Name, Declaration, Label, type_of}
 use Rattle.signature_model.specs.Components.{same_name}
-use Rattle.signature_model.specs.Entries.{Referent, a_value, an_exception, a_label, a_type, a_module, a_module_type, value_kind, label_kind}
+use Rattle.signature_model.specs.Entries.{Referent, a_value, an_exception, a_label, a_type, a_module, a_module_type, label_kind}
 use Rattle.signature_model.specs.Entries as entries
 use Rattle.signature_model.specs.Lookups.{Found, an_entry, a_hole, nothing}
 use Rattle.typing_model.specs.Demands.{value_word, label_word, site, equal, test, not_mutable, Condition, instance}
@@ -296,7 +296,7 @@ fields_go : {w : Constructors} (c : Pair w) (n : ℕ) (found : Option Declaratio
     Goes (fields_ask (left c) n found fs names) (fields_ask (right c) n found fs names)
 fields_go c n found made [] names no_one = nothing_goes
 fields_go c n found made (f ∷ fs) names (one_and s each) =
-    behind (field_value_goes c (is_some found) f names (fields_there c n found f.label made) s) (fields_go c n found made fs (names ++ name_in f.label) each)
+    behind (field_value_goes c (is_some found) f names (fields_there c n f.node found f.label made) s) (fields_go c n found made fs (names ++ name_in f.label) each)
 
 record_left : {w : Constructors} (c : Pair w) (n : ℕ) (o : Option Declaration) → IsDeclared w o → Goes (is_record (left c) n o) (is_record (right c) n o)
 record_left c n None made = nothing_goes

@@ -264,7 +264,7 @@ fields_go : {w : Constructors} (c : Pair w) (n : ℕ) (found : Option Declaratio
     Goes (match_fields (left c) n found fs names seen) (match_fields (right c) n found fs names seen)
 fields_go c n found made [] names seen no_one = nothing_goes
 fields_go c n found made (f ∷ fs) names seen (one_and s each) =
-    behind (field_goes c n _ f names seen (fields_there c n found f.label made) s)
+    behind (field_goes c n _ f names seen (fields_there c n f.node found f.label made) s)
     (fields_go c n found made fs (names ++ name_in f.label) (seen ++ mentions_in_field f) each)
 
 -- the node has the type of a record, if it is found

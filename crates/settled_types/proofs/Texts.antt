@@ -25,7 +25,6 @@ use Rattle.fault_model.specs.Values.{is_bare_item, are_bare}
 use Rattle.typing_laws.proofs.Bools.{no_yes, and_cases}
 use Rattle.typing_laws.proofs.Steady.{Each, no_one, one_and, IfThere, absent, there}
 use Rattle.typing_laws.proofs.SteadyRows.{first_there}
-use Rattle.demand_laws.proofs.Rows.{AlikeChild}
 use Rattle.demand_laws.proofs.Rows as alike
 use Rattle.demand_laws.proofs.Texts.{node_alike, leaf_alike}
 use Rattle.demand_laws.proofs.Bare.{TakesNone, constructor_among, IsBareRow, item_bare}

@@ -1,20 +1,21 @@
 -- What is found in scope is made of some constructors alone, so what is left of its types in a use are its types in a use of what is left.
-use Rattle.std.proofs.Common.{◌≡◌, ◌∙◌, ℕ, Bool, true, false, List, [], ◌∷◌, Option, Some, None, option_map, refl, sym, ap, subst, if◌then◌else◌, arith}
+use Rattle.std.proofs.Common.{◌≡◌, ◌∙◌, ℕ, suc, Bool, true, false, List, [], ◌∷◌, Option, Some, None, option_map, refl, sym, ap, subst, if◌then◌else◌, arith}
 use Rattle.std.proofs.Math.Path.{fun_ext}
 use Rattle.token_model.specs.Kinds.{Tok}
-use Rattle.type_model.specs.Types.{Typ, types_of}
+use Rattle.type_model.specs.Types.{Path, Typ, occurs, types_of}
+use Rattle.type_print_model.specs.Printing.{mentions}
 use Rattle.signature_model.specs.Declarations.{Name, Declaration, Label, Shape, Opaque, Variant, Labels, type_of}
 use Rattle.signature_model.specs.Components.{same_name}
 use Rattle.signature_model.specs.Entries.{Referent, a_value, a_constructor, an_exception, a_label, a_type, a_module, a_module_type, constructor_kind, label_kind, type_kind}
 use Rattle.signature_model.specs.Lookups.{Found, an_entry, a_hole, nothing}
 use Rattle.signature_model.specs.Changes.{argument}
 use Rattle.signature_model.specs.Matching.{used}
-use Rattle.typing_model.specs.Contexts.{type_at, letter, filled_at}
+use Rattle.typing_model.specs.Contexts.{Choice, type_at, letter, filled_at}
 use Rattle.typing_model.specs.Demands.{site}
 use Rattle.typing_model.specs.Parts.{Written}
 use Rattle.typing_model.specs.Names.{names_of, then_by, referent_of, entry_of, declaration_in, label_in, Built, built_in, used_at, found_by}
 use Rattle.typing_model.specs.BuiltIns.{exn_type}
-use Rattle.typing_model.specs.Records.{labels_of, labels_in, find_label, field_type, declaration_found, record_found, first_token}
+use Rattle.typing_model.specs.Records.{labels_of, labels_in, find_label, label_argument, label_filled, used_in_record, field_type, declaration_found, record_found, first_token}
 use Rattle.typing_model.specs.Patterns.{built_by, argument_type, kept_record}
 use Rattle.typing_model.specs.Expressions.{label_found}
 use Rattle.typing_model.specs.TypeExpressions.{applied_to, types_of_nodes}
@@ -164,15 +165,32 @@ shape_labels w Opaque h = refl
 shape_labels w (Variant ks) h = refl
 shape_labels w (Labels ls) h = h
 
-pub fields_there : {w : Constructors} (c : Pair w) (n : ℕ) (found : Option Declaration) (p : Written) → IsDeclared w found → BothThere w (field_type (left c) n found p) (field_type (right c) n found p)
-fields_there c n None p h = neither
-fields_there {w} c n (Some d) p h = by p.last
+-- a type of a label as it is used in a record
+label_left : {w : Constructors} (c : Pair w) (n m : ℕ) (owner t : Typ) → is_made_of w.all t ≡ true → used_in_record n m owner t (right c).chosen ≡ rest w (used_in_record n m owner t (left c).chosen)
+label_left {w} c n m owner t h = (λ i. used (λ k. argument_left k i) (λ o. filled_left o i) t) ∙ sym (erase_used w.all (label_argument c.choice n m owner) (label_filled c.choice n m owner) t h)
   where
-    of_label : (o : Option Label) → ((l : Label) → o ≡ Some l → is_made_of w.all l.body ≡ true) → BothThere w (option_map (λ l. used_at (left c) n l.body) o) (option_map (λ l. used_at (right c) n l.body) o)
-    of_label None g = neither
-    of_label (Some l) g = both (used_left c n l.body (g l refl))
+    either : (b : Bool) (x y : Typ) → (if b then rest w x else rest w y) ≡ rest w (if b then x else y)
+    either true x y = refl
+    either false x y = refl
 
-    by : (o : Option Tok) → BothThere w (then_by o (λ t. option_map (λ l. used_at (left c) n l.body) (find_label t.name (labels_in d.shape)))) (then_by o (λ t. option_map (λ l. used_at (right c) n l.body) (find_label t.name (labels_in d.shape))))
+    argument_left : (k : ℕ) → label_argument (right c).chosen n m owner k ≡ rest w (label_argument c.choice n m owner k)
+    argument_left k = either (occurs k owner) (c.choice.letter n k) (c.choice.letter m (suc k))
+
+    filled_left : (o : Path) → label_filled (right c).chosen n m owner o ≡ rest w (label_filled c.choice n m owner o)
+    filled_left o = either (mentions o owner) (c.choice.filled n o) (c.choice.filled m o)
+
+pub fields_there : {w : Constructors} (c : Pair w) (n m : ℕ) (found : Option Declaration) (p : Written) → IsDeclared w found → BothThere w (field_type (left c) n m found p) (field_type (right c) n m found p)
+fields_there c n m None p h = neither
+fields_there {w} c n m (Some d) p h = by p.last
+  where
+    used_here : Choice → Label → Typ
+    used_here ch l = used_in_record n m (type_of d) l.body ch
+
+    of_label : (o : Option Label) → ((l : Label) → o ≡ Some l → is_made_of w.all l.body ≡ true) → BothThere w (option_map (used_here (left c).chosen) o) (option_map (used_here (right c).chosen) o)
+    of_label None g = neither
+    of_label (Some l) g = both (label_left c n m (type_of d) l.body (g l refl))
+
+    by : (o : Option Tok) → BothThere w (then_by o (λ t. option_map (used_here (left c).chosen) (find_label t.name (labels_in d.shape)))) (then_by o (λ t. option_map (used_here (right c).chosen) (find_label t.name (labels_in d.shape))))
     by None = neither
     by (Some t) = of_label (find_label t.name (labels_in d.shape)) (label_made w t.name (labels_in d.shape) (shape_labels w d.shape (and_cases (is_made_of w.all (type_of d)) (shape_made_of w.all d.shape) h).1))
 

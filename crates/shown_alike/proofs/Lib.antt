@@ -1,3 +1,6 @@
 pub mod Texts
 pub mod Shown
+pub mod AtNodes
+pub mod Behind
+pub mod Weak
 pub mod Programs

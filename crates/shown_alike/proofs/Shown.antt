@@ -24,11 +24,18 @@ use Rattle.over_laws.proofs.Texts.{values_tell_typed_over}
 use Rattle.shown_alike.specs.Told.{HasNone, type_at, IsTold}
 use Rattle.shown_alike.proofs.Texts.{shown_one}
 
+-- the same demands are kept in two typings from one environment
+demands_of_one : (items : List Tree) → has_values_alone items ≡ true → (env : Environment) (kept others : Site → Bool) → IsKept env items kept → IsKept env items others → kept ≡ others
+demands_of_one items values env kept others k o = fun_ext (are_one env items kept others k o (λ s x y same. absurd (no_yes (sym (no_closings env items kept (values_plain items values) s) ∙ x))))
+
+pub kept_one : (items : List Tree) → has_values_alone items ≡ true → (a b : IsTypingOf items) → a.env ≡ b.env → a.kept ≡ b.kept
+kept_one items values a b same = demands_of_one items values a.env a.kept b.kept a.keeps (subst (λ E. IsKept E items b.kept) (sym same) b.keeps)
+
 -- the types of two such typings from one environment are renamings of each other
 typings_of_one : (items : List Tree) → has_values_alone items ≡ true → (env : Environment) (kept others : Site → Bool) (types shown : ℕ → Typ) → IsKept env items kept → IsKept env items others → IsPrincipal env items kept types → IsPrincipal env items others shown →
     AreRenamed types shown
 typings_of_one items values env kept others types shown k o p q =
-    let same : kept ≡ others = fun_ext (are_one env items kept others k o (λ s x y same. absurd (no_yes (sym (no_closings env items kept (values_plain items values) s) ∙ x)))) in
+    let same : kept ≡ others = demands_of_one items values env kept others k o in
     are_renamed kept (conditions_of env items kept) types shown p (subst (λ z. IsPrincipal env items z shown) (sym same) q)
 
 pub typings_renamed : (items : List Tree) → has_values_alone items ≡ true → (a b : IsTypingOf items) → a.env ≡ b.env → AreRenamed a.choice.type_at b.choice.type_at

@@ -1,7 +1,7 @@
 -- The texts of types that are shown for the typed nodes of items that are `let` and `;;` alone are those of one principal typing, by what an analysis has recorded of them.
-use Rattle.std.proofs.Common.{◌≡◌, ◌<◌, ℕ, true, List, [], ◌∷◌, length, reverse, Option, Some, None, sym, ◌∙◌, ap, subst, arith}
+use Rattle.std.proofs.Common.{◌≡◌, ◌<◌, ℕ, true, List, [], ◌∷◌, length, reverse, Option, Some, None, refl, sym, ◌∙◌, ap, subst, arith, if◌then◌else◌}
 use Rattle.std.specs.Prelude.{All, MatchBool, MatchOption, codes, nat_lt, option_and_then, option_map}
-use Rattle.std.specs.List.{AllZip}
+use Rattle.std.specs.List.{AllZip, list_all}
 use Rattle.std.proofs.lemmas.Bool.Decides.{nat_tests}
 use Rattle.std.proofs.lemmas.List.Elements.{All-head, All-tail}
 use Rattle.std.proofs.lemmas.List.Sorted.{All-permutation, IsPermutation-reverse}
@@ -11,7 +11,11 @@ use Rattle.type_model.specs.Types.{Typ}
 use Rattle.signature_model.specs.Entries.{Environment}
 use Rattle.type_print_model.specs.Variables.{variables_of}
 use Rattle.typed_model.specs.Shown.{number_of, IsShownAs, IsShownAt, AreShown}
+use Rattle.typed_model.specs.Weak.{AreWeak}
 use Rattle.fault_model.specs.Refused.{AreOfValues}
+use Rattle.type_nodes.specs.Nodes.{Node}
+use Rattle.type_nodes.specs.Links.{root}
+use Rattle.type_nodes.specs.Views.{numbers}
 use Rattle.type_terms.specs.declared.types.NodeRef.{NodeRef}
 use Rattle.env_table.specs.declared.entries.Entry.{Entry}
 use Rattle.env_table.specs.declared.seen.Seen.{Seen}
@@ -20,7 +24,7 @@ use Rattle.type_print.specs.Meeting.{roots_of}
 use Rattle.type_print.specs.Shown.{shown}
 use Rattle.type_print.specs.Texts.{PrintsIn}
 use Rattle.analysis_api.specs.declared.Analysis.{Analysis}
-use Rattle.analysis_api.specs.Types.{HasType, AreTyped}
+use Rattle.analysis_api.specs.Types.{HasType, AreTyped, AreSettled}
 use Rattle.query_engine.specs.declared.asked.Asked.{Asked}
 use Rattle.query_engine.specs.Texts.{is_node, type_at, weak_nodes, IsTextOf, IsTypeText, PrintsNode}
 use Rattle.shown_laws.proofs.Numbers.{items_low, same_node, IsLow}
@@ -34,9 +38,30 @@ weak_of a = roots_of a.store.now.nodes (weak_nodes a)
 pub record Asks (a : Asked) (x : Analysis) : Type 0 where
   pub index : a.index.now ≡ x.index.now
   pub store : a.store.now ≡ x.store.now
+  pub weak : a.weak.now ≡ x.weak.now
 
 below : (n m : ℕ) → n < m → nat_lt n m ≡ true
 below n m h = grind (arith, nat_tests)
+
+-- nodes that read as themselves are shown as weak
+abbrev AreOwn : List Node → List ℕ → Type 0
+AreOwn nodes ns = All (λ v. (v < length nodes) × (root nodes v ≡ v)) ns
+
+all_nodes : (a : Asked) (ns : List ℕ) → AreOwn a.store.now.nodes ns → list_all (is_node a) ns ≡ true
+all_nodes a [] own = refl
+all_nodes a (n ∷ ns) own =
+    let here : is_node a n ≡ true = below n (length a.store.now.nodes) (All-head (λ v. (v < length a.store.now.nodes) × (root a.store.now.nodes v ≡ v)) n ns own).0 in
+    let others : list_all (is_node a) ns ≡ true = all_nodes a ns (All-tail (λ v. (v < length a.store.now.nodes) × (root a.store.now.nodes v ≡ v)) n ns own) in
+    rw (here, others) refl
+
+roots_same : (nodes : List Node) (ns : List ℕ) → AreOwn nodes ns → roots_of nodes ns ≡ ns
+roots_same nodes [] own = refl
+roots_same nodes (n ∷ ns) own = λ i. (All-head (λ v. (v < length nodes) × (root nodes v ≡ v)) n ns own).1 i ∷ roots_same nodes ns (All-tail (λ v. (v < length nodes) × (root nodes v ≡ v)) n ns own) i
+
+weak_same : (a : Asked) (x : Analysis) → Asks a x → AreOwn x.store.now.nodes (numbers x.weak.now) → weak_of a ≡ numbers x.weak.now
+weak_same a x asks own =
+    let here : AreOwn a.store.now.nodes (numbers a.weak.now) = subst (λ ws. AreOwn a.store.now.nodes (numbers ws)) (sym asks.weak) (subst (λ s. AreOwn s.nodes (numbers x.weak.now)) (sym asks.store) own) in
+    ap (λ b. roots_of a.store.now.nodes (if b then numbers a.weak.now else [])) (all_nodes a (numbers a.weak.now) here) ∙ roots_same a.store.now.nodes (numbers a.weak.now) here ∙ ap numbers asks.weak
 
 -- what is recorded for a node that has a type: the names in scope there, and the type's node
 recorded : (a : Asked) (n : Typed) (seen : Seen) (m : ℕ) → seen_at a.index.now n.id.item n.id.pre ≡ Some seen → option_map (λ (k : NodeRef). k.0) seen.ty ≡ Some m → type_at a n.id ≡ Some (seen.env, m)
@@ -73,13 +98,14 @@ nodes_shown a x asks items typed (n ∷ ns) low (text ∷ texts) all = (
   nodes_shown a x asks items typed ns (All-tail IsLow n ns low) texts all.1,
 )
 
--- So the typed nodes that hold an offset are shown, from the last in preorder to the first, with the types of a principal typing.
-pub round_shown : (a : Asked) (x : Analysis) → Asks a x → (items : List Tree) → AreOfValues items → (typed : AreTyped items x) (o : ℕ) (texts : List (List ℕ)) → AllZip (λ n text. IsTypeText a n.id text) (reverse (typed_at o items)) texts →
+-- So the typed nodes that hold an offset are shown, from the last in preorder to the first, with the types of a principal typing and its weak variables.
+pub round_shown : (a : Asked) (x : Analysis) → Asks a x → (items : List Tree) → AreOfValues items → (settled : AreSettled items x) (o : ℕ) (texts : List (List ℕ)) → AllZip (λ n text. IsTypeText a n.id text) (reverse (typed_at o items)) texts →
     AreShown items (reverse (typed_at o items)) texts
-round_shown a x asks items lets typed o texts all = record {
-  typing = typed.typing;
+round_shown a x asks items lets settled o texts all = record {
+  typing = settled.typed.typing;
   weak = weak_of a;
-  each = nodes_shown a x asks items typed (reverse (typed_at o items))
+  are_weak = λ alone. subst (AreWeak items settled.typed.typing.env settled.typed.typing.kept settled.typed.typing.choice) (sym (weak_same a x asks settled.own)) (settled.weak alone);
+  each = nodes_shown a x asks items settled.typed (reverse (typed_at o items))
       (All-permutation IsLow (typed_at o items) (reverse (typed_at o items)) (IsPermutation-reverse (typed_at o items)) (items_low o 1 items lets.few))
       texts all;
 }

@@ -21,7 +21,7 @@ use Rattle.env_table.specs.declared.entries.What.TheVariants as what
 use Rattle.env_table.specs.Views.{kind_of}
 use Rattle.typing_state.specs.declared.parts.Parts.{Parts}
 use Rattle.typing_conditions.specs.Declared.{DeclaredAs, ExceptionAs}
-use Rattle.typing_conditions.specs.Environments.{SigAs}
+use Rattle.typing_conditions.specs.Environments.{defined_at, SigAs}
 use Rattle.typing_conditions.specs.Sights.{Letters}
 use Rattle.typing_steps.specs.Constants.{HasConstants}
 use Rattle.typing_steps.specs.States.{sight}
@@ -49,14 +49,14 @@ owned_all (l ∷ ls) declared = leaves_types declared (owned_all ls declared)
 
 -- The item is done: that its name is new was judged first, then the node of its signature was recorded, values were added, and the item's own node was recorded.
 pub module_done : (a first begun b d : Parts) {G : Letters} {env after shown_here : List Entry} {E : Choice → Environment} (at : Outside as_declared (sight a) G env E) (n y : ℕ) (x : Tok) (seen : Seen) (ms : List Item) → ItemsCarried E (λ c. ask_new n seen.modules (Some x)) (sight a) G (sight first) G → Untyped a first → OnlyBetween (sight first) (sight begun) →
-    (at' : Outside as_declared (sight begun) G env E) (p : ValuesAdded begun at' ms b after shown_here) → OnlyBetween (sight b) (sight d) → HasConstants d → AreNoted p.done.outside.older d → (e : Entry) (s : Rc Sig Global) → e.what ≡ what.Module s → str_bytes e.name ≡ x.name → e.kind ≡ kind.Module →
+    (at' : Outside as_declared (sight begun) G env E) (p : ValuesAdded begun at' ms b after shown_here) → OnlyBetween (sight b) (sight d) → HasConstants d → AreNoted p.done.outside.older d → (e : Entry) (s : Rc Sig Global) → e.what ≡ what.Module s → str_bytes e.name ≡ x.name → e.kind ≡ kind.Module → defined_at e.place ≡ in_text (place_of x) →
     SigAs (SpecifiedAs b.store.nodes p.done.outside.roots p.done.outside.names) (DeclaredAs b.store.nodes p.done.outside.roots p.done.outside.names) (ExceptionAs b.store.nodes p.done.outside.roots p.done.outside.names) s.value (Structure (newest_alone (values_by p.named))) →
     ItemAdded E (recorded_module n y x ms) seen (record no_names { modules = x.name ∷ [] }) a d G (e ∷ env)
 unfolding items_treated outside_between
-module_done a first begun b d {E = E} at n y x seen ms asked untyped only at' p last constants noted e s is name kinds sig =
+module_done a first begun b d {E = E} at n y x seen ms asked untyped only at' p last constants noted e s is name kinds placed sig =
     let S = Structure (newest_alone (values_by p.named)) in
     let f : Named = entry x.name (in_text (place_of x)) (a_module S) in
-    let starts = module_starts p e f s S is (sym name) (sym (λ i. kind_of (kinds i))) refl sig in
+    let starts = module_starts p e f s S is (sym name) (sym (λ i. kind_of (kinds i))) placed refl sig in
     let inside = items_inside at.sound asked only (items_treated y p.done.carried) last in
     record {
       done = record {

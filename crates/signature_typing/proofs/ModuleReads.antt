@@ -34,7 +34,7 @@ use Rattle.typing_state.specs.Messages.{twice_text}
 use Rattle.typing_state.specs.Notes.{NotedNameless}
 use Rattle.operand_laws.specs.Operands.{number_of}
 use Rattle.typing_conditions.specs.Declared.{DeclaredAs, ExceptionAs}
-use Rattle.typing_conditions.specs.Environments.{EnvAs, SigAs}
+use Rattle.typing_conditions.specs.Environments.{defined_at, EnvAs, SigAs}
 use Rattle.typing_conditions.specs.Judging.{judgements, AreKept}
 use Rattle.typing_conditions.specs.Sights.{Letters}
 use Rattle.typing_conditions.specs.Steps.{IsTold}
@@ -184,7 +184,7 @@ module_specified a p b d s s1 s2 s3 n t (Some w) m params named asks names fault
     subst (λ again. IsTold (sight a) (sight p) (place_of x.name) fault.Unique (twice_text x.name.name) (not again)) (standing.modules x.name.name) (told_new a p w.now.span x.name.name (has_name s kind.Module x.name.name) aloud asks.0) in
     let last = (let (v, is, noted) = adds.noted in names_between b d n (record { env = s1.env; ty = None; names = v }) noted refl rest) in
     let one : ItemAdded E (recorded_module N Y x.name ms) seen (record no_names { modules = x.name.name ∷ [] }) a d G (adds.entry ∷ s.env) =
-    module_done a p read.begun b d at N Y x.name seen ms (name_asked at N seen.modules x.name only told) (record { types = only.types }) read.only read.outside read.adds last (constants_kept b d goes_on read.adds.done.constants) (noted_on read.adds.done.outside.older read.adds.done.noted goes_on) adds.entry m adds.is.what adds.is.name adds.is.kind sig in
+    module_done a p read.begun b d at N Y x.name seen ms (name_asked at N seen.modules x.name only told) (record { types = only.types }) read.only read.outside read.adds last (constants_kept b d goes_on read.adds.done.constants) (noted_on read.adds.done.outside.older read.adds.done.noted goes_on) adds.entry m adds.is.what adds.is.name adds.is.kind (ap defined_at adds.is.place) sig in
     let after : adds.entry ∷ s.env ≡ s3.env = sym (env ∙ adds.env ∙ ap (λ es. adds.entry ∷ es) names.env) in
     let names_now = seen_too seen (record no_names { modules = x.name.name ∷ [] }) in
     record {

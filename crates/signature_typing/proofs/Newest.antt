@@ -53,10 +53,10 @@ module _ {S : ℕ → Scheme → Type 0} {D : Declaration → rules.Declaration 
   no_exception (of_value {n = n} e r) = ap (λ w. exception_opened (out-What w)) e ∙ ap exception_opened (what.outs-Scheme n)
 
   what_of : {e : Entry} {n : Name} {at : rules.Place} {s : Scheme} → EntryAs S D X e (entry n at (a_value s)) → WhatAs S D X e.what (a_value s)
-  what_of (entry_as name kind w) = w
+  what_of (entry_as name kind at w) = w
 
   name_of : {e : Entry} {n : Name} {at : rules.Place} {s : Scheme} → EntryAs S D X e (entry n at (a_value s)) → n ≡ str_bytes e.name
-  name_of (entry_as name kind w) = name
+  name_of (entry_as name kind at w) = name
 
   -- whether there is a value of a name
   any_newest : (n : Name) {es : List Entry} (cs : Components) → AllValues cs → EnvAs S D X es (entries_in cs) → any_named is_value n es ≡ is_some (newest as_value n cs)

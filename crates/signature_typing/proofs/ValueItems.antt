@@ -38,7 +38,7 @@ use Rattle.signature_typing.specs.Values.{variables_of, type_specified, ValueClo
 use Rattle.signature_typing.specs.ValueItems.{AllValues, recorded_value, ValueAdded, ValueDone, GivesValue}
 
 -- The value is specified from a state between items, by the row t that has the number n in its item.
-module _ (a b : Parts) {G : Letters} {env : List Entry} {E : Choice → Environment} (at : Outside as_declared (sight a) G env E) (constants : HasConstants a) (n : ℕ) (t : Tree) (name : Tok) (named : token_in t 1 ≡ Some name) (y : Entry) (r : ℕ) (is : IsValue y name.name r)
+module _ (a b : Parts) {G : Letters} {env : List Entry} {E : Choice → Environment} (at : Outside as_declared (sight a) G env E) (constants : HasConstants a) (n : ℕ) (t : Tree) (name : Tok) (named : token_in t 1 ≡ Some name) (y : Entry) (r : ℕ) (is : IsValue y name r)
     (z : ValueClosed (names_before a at constants (variables_of t)) (λ c. (type_specified a.item n t).read c) (item_frame a at constants) (length (variables_of t)) a b (starts a at constants) (type_specified a.item n t).node r) (untyped : Untyped a b) (goes : Goes a b) where
   abbrev written : TypeExpression
   written = type_specified a.item n t
@@ -53,7 +53,7 @@ module _ (a b : Parts) {G : Letters} {env : List Entry} {E : Choice → Environm
 
   next_starts : IsKnown z.settled.type → StartsAfter at (sight b) G (y ∷ []) (named_entry ∷ []) z.numbers
   next_starts known = outside_value (sight b) at (own_types a at constants) (own_at a at constants) (exn_node a at constants) (exn_inside a at constants) (exn_closed a at constants) refl z.to.on z.settled.type known z.to.denotes z.closes z.plain z.sound z.level (record { types = untyped.types; noted = still_noted goes; scopes = still_scoped goes })
-      y named_entry is.cell is.what is.root (sym is.name) (sym (ap kind_of is.kind)) refl
+      y named_entry is.cell is.what is.root (sym is.name) (sym (ap kind_of is.kind)) is.placed refl
 
   -- the entry that it adds
   adds_one : (c : Context) → c.chosen.type_at written.node ≡ z.settled.type → entry_named (token_in t 1) (a_value (all_bound (c.chosen.type_at written.node))) ≡ named_entry ∷ []

@@ -25,7 +25,7 @@ use Rattle.typing_state.specs.Goes.{Goes}
 use Rattle.env_table.specs.declared.entries.Sig.{Sig}
 use Rattle.env_table.specs.declared.entries.What.TheVariants as what
 use Rattle.env_table.specs.Views.{kind_of}
-use Rattle.typing_conditions.specs.Environments.{WhatAs, of_module, entry_as, EnvAs, no_names as no_entries, newest, SigAs}
+use Rattle.typing_conditions.specs.Environments.{defined_at, WhatAs, of_module, entry_as, EnvAs, no_names as no_entries, newest, SigAs}
 use Rattle.typing_conditions.specs.Declared.{DeclaredAs, ExceptionAs}
 use Rattle.typing_conditions.specs.Sights.{Letters}
 use Rattle.typing_conditions.proofs.Environments.{env_append}
@@ -230,13 +230,13 @@ added_end a b env s all os i past first G E values aloud at constants older V c 
 
 -- After the signature the names of before are in scope again, with that of a module whose signature stands for one of the definitions by the roots that were added.
 pub module_starts : {a b : Parts} {G : Letters} {env after shown_here : List Entry} {E : Choice → Environment} {at : Outside as_declared (sight a) G env E} {ms : List Item} (p : ValuesAdded a at ms b after shown_here) (e : Entry) (f : Named) (s : Rc Sig Global) (S : Signature) → e.what ≡ what.Module s → f.name ≡ str_bytes e.name →
-    kind_named f.stands_for ≡ kind_of e.kind → f.stands_for ≡ a_module S →
+    kind_named f.stands_for ≡ kind_of e.kind → defined_at e.place ≡ f.place → f.stands_for ≡ a_module S →
     SigAs (SpecifiedAs b.store.nodes p.done.outside.roots p.done.outside.names) (DeclaredAs b.store.nodes p.done.outside.roots p.done.outside.names) (ExceptionAs b.store.nodes p.done.outside.roots p.done.outside.names) s.value S → StartsAfter at (sight b) p.done.letters (e ∷ []) (f ∷ []) p.done.outside.older
-module_starts {b = b} {at = at} p e f s S is name kind stands sig =
+module_starts {b = b} {at = at} p e f s S is name kind placed stands sig =
     let R = p.done.outside.roots in
     let N = p.done.outside.names in
     outside_within at p.done.outside p.grows p.done.carried.stays.given (e ∷ []) (f ∷ [])
-    (newest (entry_as name kind (subst (WhatAs (SpecifiedAs b.store.nodes R N) (DeclaredAs b.store.nodes R N) (ExceptionAs b.store.nodes R N) e.what) (sym stands) (of_module is sig))) no_entries)
+    (newest (entry_as name kind placed (subst (WhatAs (SpecifiedAs b.store.nodes R N) (DeclaredAs b.store.nodes R N) (ExceptionAs b.store.nodes R N) e.what) (sym stands) (of_module is sig))) no_entries)
 
 -- The signature of the module is one, whatever meets what the values ask, made anew at any node.
 pub module_signature : {a b : Parts} {G : Letters} {env after shown_here : List Entry} {E : Choice → Environment} {at : Outside as_declared (sight a) G env E} {ms : List Item} (p : ValuesAdded a at ms b after shown_here) (u : ℕ) →

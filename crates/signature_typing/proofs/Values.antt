@@ -85,6 +85,6 @@ pub enters_none : (a b d : Parts) (env : List Entry) (number : ℕ) (t : Tree) (
 enters_none a b d env number t r rest goes read none = subst (λ o. SpecifiesNamed o a d env env number t) (sym none) (record { root = r; closes = value_noted a b d env number t r rest goes read; scope = refl })
 
 -- one is, and it is entered
-pub enters_one : (a b d : Parts) (env after : List Entry) (number : ℕ) (t : Tree) (r : ℕ) (name : Tok) (entry : Entry) → OnlyIndex b d → Goes b d → ClosesValue a b env number t r → token_in t 1 ≡ Some name → IsValue entry name.name r → after ≡ entry ∷ env → SpecifiesValue a d env after number t
+pub enters_one : (a b d : Parts) (env after : List Entry) (number : ℕ) (t : Tree) (r : ℕ) (name : Tok) (entry : Entry) → OnlyIndex b d → Goes b d → ClosesValue a b env number t r → token_in t 1 ≡ Some name → IsValue entry name r → after ≡ entry ∷ env → SpecifiesValue a d env after number t
 enters_one a b d env after number t r name entry rest goes read some is scope =
     subst (λ o. SpecifiesNamed o a d env after number t) (sym some) (record { root = r; closes = value_noted a b d env number t r rest goes read; entry = entry; is = is; scope = scope })

@@ -2,10 +2,10 @@
 use Rattle.std.specs.Prelude.{◌≡◌, ℕ, true, List, [], ◌∷◌, ◌++◌, length, Option, Some, None}
 use Rattle.token_model.specs.Kinds.{Tok}
 use Rattle.tree_model.specs.Trees.{Tree, yield_of}
-use Rattle.signature_model.specs.Declarations.{Name}
+use Rattle.signature_model.specs.Declarations.{Name, in_text}
 use Rattle.typing_model.specs.Items.{variables_written}
 use Rattle.typing_model.specs.Modules.{once_each}
-use Rattle.typing_model.specs.Parts.{TypeExpression}
+use Rattle.typing_model.specs.Parts.{TypeExpression, place_of}
 use Rattle.type_nodes.specs.Nodes.{IsSound}
 use Rattle.type_nodes.specs.Readings.{Types}
 use Rattle.env_table.specs.declared.entries.Entry.{Entry}
@@ -15,6 +15,7 @@ use Rattle.type_terms.specs.declared.types.NodeRef.{NodeRef}
 use Rattle.text_terms.specs.Bytes.{str_bytes}
 use Rattle.row_parts.specs.Numbered.{filled_in, token_in}
 use Rattle.typing_state.specs.declared.parts.Parts.{Parts}
+use Rattle.typing_conditions.specs.Environments.{defined_at}
 use Rattle.typing_conditions.specs.Frames.{Frame}
 use Rattle.typing_conditions.specs.Locals.{IsPlain, IsOwn, ClosesAll}
 use Rattle.typing_conditions.specs.Carrying.{Asks}
@@ -61,20 +62,21 @@ abbrev pub ClosesValue : (a b : Parts) → List Entry → (number : ℕ) → Tre
 ClosesValue a b env number t r = IsFormed number t → is_aloud a.telling ≡ true → a.level ≡ 0 → (B : Before) → Around env (variables_of t) B → (F : Frame) (U : List ℕ) (A : Assignment) → Inside F 0 U (raised a) A B.named env [] → AreNoted U a →
     ValueClosed B (λ c. (type_specified a.item number t).read c) F (length (variables_of t)) a b A (type_specified a.item number t).node r
 
--- an entry is a value of this name, with this root
-pub record IsValue (x : Entry) (n : Name) (r : ℕ) : Type 0 where
+-- an entry is a value whose name is written as this token, with this root
+pub record IsValue (x : Entry) (t : Tok) (r : ℕ) : Type 0 where
   pub cell : NodeRef
   pub what : x.what ≡ what.Scheme cell
   pub root : cell.0 ≡ r
-  pub name : str_bytes x.name ≡ n
+  pub name : str_bytes x.name ≡ t.name
   pub kind : x.kind ≡ kind.Value
+  pub placed : defined_at x.place ≡ in_text (place_of t)
 
 -- A value is specified: its root is closed, and it is in front of the names of before.
 pub record SpecifiesOne (a b : Parts) (env after : List Entry) (number : ℕ) (t : Tree) (name : Tok) : Type 0 where
   pub root : ℕ
   pub closes : ClosesValue a b env number t root
   pub entry : Entry
-  pub is : IsValue entry name.name root
+  pub is : IsValue entry name root
   pub scope : after ≡ entry ∷ env
 
 -- A specification without a name is read, and enters nothing.

@@ -15,7 +15,7 @@ ghost use Rattle.signature_typing.specs.TypeItems.{names_written, AsksEach, Give
 use crate::variables::add_variables;
 use decl_groups::{DeclarationPart, declarations_of};
 use decl_typing::{new_parameters, type_decls, type_exception};
-use env_table::{Entry, Kind, What};
+use env_table::{Entry, Kind, Place, What};
 use module_steps::{Scene, module_path, module_type_path};
 use owned_lists::{owned, push};
 use row_parts::{operand_in, token};
@@ -116,12 +116,12 @@ pub fn value_item(
 
 /// The entry of a value of this name and scheme.
 fn value_entry(at: &Parts, name: &Token, root: NodeRef) -> Result<Rc<Entry>, NoMemory>
-    ensures { IfOk result (λ x. IsValue x.value (tok_of name.now).name root.0) }
+    ensures { IfOk result (λ x. IsValue x.value (tok_of name.now) root.0) }
 {
     let entry = Entry {
         name: name.name.share()?,
         kind: Kind::Value,
-        place: at.place(name.span),
+        place: Place::Buffer(name.span),
         what: What::Scheme(root),
     };
     owned(at.alloc(), entry)

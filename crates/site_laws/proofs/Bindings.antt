@@ -1,5 +1,5 @@
 -- Bindings make each demand once.
-use Rattle.std.proofs.Common.{inl, inr, ◌⊎◌, ℕ, ◌+◌, Bool, true, false, List, [], ◌∷◌, ◌++◌, Option, Some, None, refl, arith}
+use Rattle.std.proofs.Common.{inl, inr, ◌⊎◌, ℕ, Bool, true, false, List, [], ◌∷◌, ◌++◌, Option, Some, None, refl, arith}
 use Rattle.tree_model.specs.Trees.{Place}
 use Rattle.signature_model.specs.Declarations.{Name}
 use Rattle.typing_model.specs.Demands.{Site}

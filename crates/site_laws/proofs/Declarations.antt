@@ -1,15 +1,15 @@
 -- Declarations of types make each demand once.
-use Rattle.std.proofs.Common.{◌≡◌, inl, inr, ◌⊎◌, ℕ, ◌+◌, ◌≤◌, Bool, true, false, List, [], ◌∷◌, ◌++◌, length, not, Option, Some, None, option_map, refl, sym, subst, arith}
+use Rattle.std.proofs.Common.{◌≡◌, inl, inr, ◌⊎◌, ℕ, ◌+◌, ◌≤◌, Bool, true, false, List, [], ◌∷◌, ◌++◌, length, not, Option, Some, None, option_map, refl, subst, arith}
 use Rattle.token_model.specs.Kinds.{Tok}
 use Rattle.signature_model.specs.Declarations.{Name, Shape}
-use Rattle.typing_model.specs.Demands.{Site, test, twice, cyclic, differs, agrees, Condition}
+use Rattle.typing_model.specs.Demands.{Site, test, twice, cyclic, differs, agrees}
 use Rattle.typing_model.specs.Contexts.{Context, parameters, under, type_at, ask}
 use Rattle.typing_model.specs.Parts.{TypeExpression, ConstructorPart, LabelPart, Told, constructors, labels, RightSide, another, own, DeclarationPart, place_of}
 use Rattle.typing_model.specs.Patterns.{ask_all}
 use Rattle.typing_model.specs.Records.{is_among}
 use Rattle.typing_model.specs.Declarations.{shape_of, token_name, contains_itself, abbreviation_in, names_itself, names_of_types, names_of_tokens, new_tokens, names_asked, read_optional, constructors_read, labels_read, constructors_new, labels_new, shape_asks, told_of, reexport_asked, right_asks, declaration_asks, declarations_ask, cycles_asked, group_asks}
 use Rattle.typing_laws.proofs.Steady.{IfThere, absent, there}
-use Rattle.site_laws.proofs.Sites.{Within, Apart, Either, Lies, widen, join, then_within, both_in, apart_both, At, Span, From, Range, Others, span_in, own_apart, apart_turned, apart_within, asked, told, quiet, none_within, IfHere, gone, here}
+use Rattle.site_laws.proofs.Sites.{Within, Apart, Either, Lies, widen, join, then_within, both_in, apart_both, At, Span, From, Range, Others, span_in, own_apart, apart_turned, asked, told, quiet, none_within, IfHere, gone, here}
 use Rattle.site_laws.proofs.Types.{ApartType}
 use Rattle.site_laws.proofs.Patterns.{all_asked}
 

@@ -230,7 +230,7 @@ field_pattern_apart {A} f s others = record { matches = λ c n is_found names se
 fields_apart : {A : Site → Type 0} (c : Context) (n : ℕ) (found : Option Declaration) {fs : List FieldPattern} (names seen : List Name) → Every ApartFieldPattern A fs → Within A (match_fields c n found fs names seen)
 fields_apart c n found names seen none_of = none_within
 fields_apart c n found names seen (one_of {x = f} s rest apart a b) =
-    then_within (s.matches c n _ names seen (field_type c n found f.label)) (fields_apart c n found (names ++ name_in f.label) (seen ++ mentions_in_field f) rest) apart a b
+    then_within (s.matches c n _ names seen (field_type c n f.node found f.label)) (fields_apart c n found (names ++ name_in f.label) (seen ++ mentions_in_field f) rest) apart a b
 
 -- the node has the type of a record, if it is found
 abbrev is_of_record : Context → ℕ → Option Declaration → List Condition

@@ -62,7 +62,7 @@ field_apart {A} {B} {P} f own s apart a b = record { asks = λ c is_found names 
 fields_apart : {A : Site → Type 0} (c : Context) (n : ℕ) (found : Option Declaration) {fs : List Field} (names : List Name) → Every ApartField A fs → Within A (fields_ask c n found fs names)
 fields_apart c n found names none_of = none_within
 fields_apart c n found names (one_of {x = f} s rest apart a b) =
-    then_within (s.asks c (is_some found) names (field_type c n found f.label)) (fields_apart c n found (names ++ name_in f.label) rest) apart a b
+    then_within (s.asks c (is_some found) names (field_type c n f.node found f.label)) (fields_apart c n found (names ++ name_in f.label) rest) apart a b
 
 record_silent : (c : Context) (n : ℕ) (o : Option Declaration) → sites_of (is_record c n o) ≡ []
 record_silent c n None = refl

@@ -6,7 +6,7 @@ use Rattle.tree_model.specs.Rows.{Row, binding_row, case_row, ffield_row, qfield
 use Rattle.signature_model.specs.Entries.{Environment}
 use Rattle.typing_model.specs.Demands.{Site, sites_of}
 use Rattle.typing_model.specs.Contexts.{Context, Choice, Bound, parameters, under}
-use Rattle.typing_model.specs.Parts.{Expression, Pattern, TypeExpression, ConstructorPart, FieldPattern, Item, Seen, seen_too, no_names, Child, in_slot, token_in, path_in, no_expression_at, no_pattern_at, no_type_at, types_in, expression_in, expressions_in, pattern_in, patterns_in, first_of, place_of}
+use Rattle.typing_model.specs.Parts.{Expression, Pattern, TypeExpression, ConstructorPart, FieldPattern, Item, Seen, seen_too, no_names, Child, token_in, path_in, no_expression_at, no_pattern_at, no_type_at, types_in, expression_in, expressions_in, pattern_in, patterns_in, first_of, place_of}
 use Rattle.typing_model.specs.Bindings.{names_of_group}
 use Rattle.typing_model.specs.Expressions.{expression_row, bindings_in, is_some}
 use Rattle.typing_model.specs.Patterns.{pattern_row}

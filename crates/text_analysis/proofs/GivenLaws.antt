@@ -25,7 +25,8 @@ use Rattle.binding_rows.specs.ItemRows.{IsCarriedItemOperand, ItemsDone, item_if
 use Rattle.binding_rows.proofs.ItemOrders.{done_none, done_then}
 use Rattle.module_steps.specs.declared.scenes.Scene.{Scene}
 use Rattle.module_steps.specs.Scenes.{SameNames}
-use Rattle.module_typing.specs.Items.{IsGiven, GivesItem, AreCarriedItems, KeepsKnown, AllKeep}
+use Rattle.module_typing.specs.Items.{IsGiven, GivesItem, AreCarriedItems, KeepsKnown, AllKeep, AddsValues}
+use Rattle.text_analysis.specs.Weak.{AllAdd}
 use Rattle.text_analysis.specs.Given.{operands_of, Given, NoneStands, IsAs}
 
 -- the item of a tree, by its number in a text
@@ -61,6 +62,11 @@ kept_split : (ts : List Tree) (t : Tree) → AllKeep (operands_of (ts ++ t ∷ [
 kept_split [] t k = (tt, k.0)
 kept_split (u ∷ ts) t k = let r = kept_split ts t k.1 in ((k.0, r.0), r.1)
 
+-- and with those that add values alone
+pub added_split : (ts : List Tree) (t : Tree) → AllAdd (operands_of (ts ++ t ∷ [])) → AllAdd (operands_of ts) × AddsValues (inner t)
+added_split [] t k = (tt, k.0)
+added_split (u ∷ ts) t k = let r = added_split ts t k.1 in ((k.0, r.0), r.1)
+
 -- a state that is as another one has the same constants
 constants_alike : {a b : Parts} → IsAs a b → HasConstants a → HasConstants b
 constants_alike {a} {b} alike h = record {
@@ -94,7 +100,7 @@ between_alike alike telling level = record {
 }
 
 -- What was done up to a state was done up to one that is as it.
-done_alike : {K : Type 0} {E : Choice → Environment} {ms : List Item} {first a b : Parts} {G : Letters} {s s' : Scene} → IsSound first.store.nodes → IsAs a b → is_aloud b.telling ≡ is_aloud a.telling → b.level ≡ a.level → s'.env ≡ s.env → SameNames s s' →
+pub done_alike : {K : Type 0} {E : Choice → Environment} {ms : List Item} {first a b : Parts} {G : Letters} {s s' : Scene} → IsSound first.store.nodes → IsAs a b → is_aloud b.telling ≡ is_aloud a.telling → b.level ≡ a.level → s'.env ≡ s.env → SameNames s s' →
     IsGiven K E ms no_names first a G s → IsGiven K E ms no_names first b G s'
 done_alike {K} {E} {ms} {first} {a} {b} {G} {s} {s'} sound alike telling level scope same g = record {
   names = g.names;

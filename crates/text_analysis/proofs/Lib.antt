@@ -2,6 +2,10 @@
 mod ChainLaws
 -- What reading the prelude counts.
 mod Counting
+-- The variables that were found for each item.
+mod FreeLaws
+-- One item more, and the variables that are found for it.
+mod ItemFree
 -- What typing the items of a text gives.
 mod GivenLaws
 -- What is known of a typer's items.

@@ -28,12 +28,12 @@ pub take_whole : {A : Type 0} (xs : List A) → take (length xs) xs ≡ xs
 take_whole [] = refl
 take_whole (x ∷ xs) = ap (λ l. x ∷ l) (take_whole xs)
 
-take_left : {A : Type 0} (k : ℕ) (xs ys : List A) → k ≤ length xs → take k (xs ++ ys) ≡ take k xs
+pub take_left : {A : Type 0} (k : ℕ) (xs ys : List A) → k ≤ length xs → take k (xs ++ ys) ≡ take k xs
 take_left zero xs ys h = refl
 take_left (suc k) [] ys h = absurd (omega arith)
 take_left (suc k) (x ∷ xs) ys h = ap (λ l. x ∷ l) (take_left k xs ys (omega arith))
 
-take_twice : {A : Type 0} (k n : ℕ) (xs : List A) → k ≤ n → take k (take n xs) ≡ take k xs
+pub take_twice : {A : Type 0} (k n : ℕ) (xs : List A) → k ≤ n → take k (take n xs) ≡ take k xs
 take_twice zero n xs h = refl
 take_twice (suc k) zero xs h = absurd (omega arith)
 take_twice (suc k) (suc n) [] h = refl
@@ -49,7 +49,7 @@ length_taken_as zero xs h = refl
 length_taken_as (suc k) [] h = absurd (omega arith)
 length_taken_as (suc k) (x ∷ xs) h = ap suc (length_taken_as k xs (omega arith))
 
-within : {A : Type 0} (xs : List A) (k : ℕ) (x : A) → slice_get xs k ≡ Some x → k < length xs
+pub within : {A : Type 0} (xs : List A) (k : ℕ) (x : A) → slice_get xs k ≡ Some x → k < length xs
 within [] k x h = absurd (cc)
 within (y ∷ xs) zero x h = omega arith
 within (y ∷ xs) (suc k) x h = let i = within xs k x h in omega arith
@@ -239,7 +239,7 @@ points_back {first} {a} {b} {env} {ps} items p are few back = record {
         })
 
 -- the first elements of a list
-get_front : {A : Type 0} (n : ℕ) (xs : List A) (k : ℕ) (x : A) → slice_get (take n xs) k ≡ Some x → (k < n) × (slice_get xs k ≡ Some x)
+pub get_front : {A : Type 0} (n : ℕ) (xs : List A) (k : ℕ) (x : A) → slice_get (take n xs) k ≡ Some x → (k < n) × (slice_get xs k ≡ Some x)
 get_front zero xs k x h = absurd (cc)
 get_front (suc n) [] k x h = absurd (cc)
 get_front (suc n) (y ∷ xs) zero x h = (omega arith, h)

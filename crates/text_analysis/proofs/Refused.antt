@@ -8,7 +8,7 @@ use Rattle.tree_model.specs.Trees.{Place, Tree, node, inner, size_of}
 use Rattle.signature_model.specs.Entries.{Environment}
 use Rattle.typing_laws.proofs.Bools.{no_yes, and_cases}
 use Rattle.typing_model.specs.First.{IsFirst}
-use Rattle.typing_model.specs.Plain.{is_value_row, has_values_alone}
+use Rattle.typing_model.specs.Plain.{is_let_row, has_lets_alone, is_value_row, has_values_alone}
 use Rattle.fault_model.specs.Values.{is_bare_item, are_bare}
 use Rattle.parsed_rows.proofs.Bare.{constructor_bare}
 use Rattle.typing_model.specs.Typings.{conditions_of}
@@ -38,7 +38,8 @@ use Rattle.text_laws.proofs.Kept.{met, text_kept}
 use Rattle.text_laws.proofs.Principal.{sure_principal}
 use Rattle.typing_conditions.proofs.Adequate.{kept_of}
 use Rattle.module_steps.specs.declared.scenes.Scene.{Scene}
-use Rattle.module_typing.specs.Items.{TakesNone, KeepsKnown, AllKeep}
+use Rattle.module_typing.specs.Items.{TakesNone, KeepsKnown, AllKeep, AddsValues}
+use Rattle.text_analysis.specs.Weak.{AllAdd}
 use Rattle.text_analysis.specs.Given.{operands_of, Given, Opens}
 use Rattle.text_analysis.proofs.Silent.{values_are_carried}
 
@@ -157,6 +158,16 @@ all_keep (node r x ps ∷ ts) e bare =
     by rows.break_row h b = inr (inl refl)
     by rows.exception_row h b = let f = constructor_bare 0 rows.exception_row x ps b in inr (inr (refl, subst TakesNone (sym f.at) f.none))
     by _ h b = absurd (no_yes h)
+
+-- items that are `let` and `;;` add values alone
+pub all_add : (ts : List Tree) → has_lets_alone ts ≡ true → AllAdd (operands_of ts)
+all_add [] e = tt
+all_add (node r x ps ∷ ts) e = let (first, others) = and_cases (is_let_row r) (has_lets_alone ts) e in (by r first, all_add ts others)
+  where
+    by : (q : Row) → is_let_row q ≡ true → AddsValues (inner (node q x ps))
+    by rows.let_row h = inl refl
+    by rows.break_row h = inr refl
+    by _ h = absurd (no_yes h)
 
 -- Numbers in an item are below 2^32.
 pub all_placed : (at : Parts) → ArePlaced (sight at)

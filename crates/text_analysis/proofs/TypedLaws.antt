@@ -63,3 +63,13 @@ at_err (Err x) e h = h
 pub at_ok : {A F P : Type 0} (r : Result A F) → is_err r ≡ false → OnOk r P → P
 at_ok (Ok v) e h = h
 at_ok (Err x) e h = absurd (cc)
+
+-- what a call gives where it succeeds, where it did
+pub at_kept : {A F P : Type 0} {v : A} (r : Result A F) → r ≡ Ok v → OnOk r P → P
+at_kept (Ok v) e h = h
+at_kept (Err x) e h = absurd (cc)
+
+-- nothing is given at an error
+pub none_ok : {A F : Type 0} (P : Type 0) (r : Result A F) → is_err r ≡ true → OnOk r P
+none_ok P (Ok v) e = absurd (cc)
+none_ok P (Err x) e = tt

@@ -4,3 +4,4 @@ pub mod Items
 pub mod Points
 pub mod Shown
 pub mod Typed
+pub mod Weak

@@ -20,12 +20,17 @@ pub struct Typer {
 
 impl Analyser for Typer {
     ghost use Rattle.typing_model.specs.PreludeText.{prelude_text};
+    ghost use Rattle.type_nodes.specs.Views.{numbers};
+    ghost use Rattle.weak_variables.specs.Free.{FreeOf, IsFound};
+    ghost use Rattle.weak_variables.specs.Search.{lists_of};
     ghost use Rattle.text_analysis.specs.Items.{views_of};
     ghost use Rattle.text_analysis.specs.Shown.{Shows};
 
     ghost items = { λ t. views_of t.typed.items.items };
 
     ghost finds = { Shows };
+
+    ghost is_settled = { λ t. FreeOf t.typed.parts.store.nodes (IsFound (lists_of t.typed.free.items)) (numbers t.weak.items) };
 
     ghost opens = { prelude_text };
 

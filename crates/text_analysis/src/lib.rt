@@ -11,7 +11,6 @@ mod kept;
 mod point;
 mod prelude;
 mod typed_items;
-mod weak;
 mod whole;
 
 pub use kept::Typer;

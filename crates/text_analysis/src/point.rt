@@ -14,7 +14,6 @@ pub struct Point {
     pub env: Env,
     pub components: usize,
     pub makes: usize,
-    pub free: usize,
     /// Whether no item before it names a type, a module or a module type.
     pub is_plain: bool,
 }

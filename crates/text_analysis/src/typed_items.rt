@@ -1,13 +1,18 @@
 //! The items of a text, typed in order on one store, with the point before each.
-ghost use Rattle.std.specs.Prelude.{◌≡◌, ◌≤◌, ◌+◌, ◌-◌, ◌++◌, ◌∷◌, [], ℕ, List, length, take, true, false, IfOk, OnOk, OnErr};
+ghost use Rattle.std.specs.Prelude.{◌≡◌, ◌≤◌, ◌+◌, ◌-◌, ◌++◌, ◌∷◌, [], ℕ, List, length, drop, take, true, false, IfOk, OnOk, OnErr};
 ghost use Rattle.tree_model.specs.Trees.{inner};
 ghost use Rattle.syntax_tree.specs.Tallies.{Grows};
 ghost use Rattle.syntax_tree.specs.View.{node_view};
 ghost use Rattle.row_parts.specs.Numbered.{node_with};
+ghost use Rattle.type_nodes.specs.Views.{numbers};
 ghost use Rattle.env_table.specs.declared.entries.Entry.{Entry};
 ghost use Rattle.typing_state.specs.declared.parts.Parts.{Parts};
 ghost use Rattle.binding_rows.specs.ItemRows.{IsCarriedItemOperand};
 ghost use Rattle.module_typing.specs.Items.{NamesNone};
+ghost use Rattle.sig_template.specs.Structures.{entries_of};
+ghost use Rattle.weak_variables.specs.Free.{AreAllValues, FreeOf, IsFound, IsRoot};
+ghost use Rattle.weak_variables.specs.Listed.{AreListedIn, Finds, Lists};
+ghost use Rattle.weak_variables.specs.Search.{is_listed, lists_of};
 ghost use Rattle.analysis_api.specs.Typed.{more_typed};
 ghost use Rattle.text_analysis.specs.Items.{views_of};
 ghost use Rattle.text_analysis.specs.Given.{NoneStands, Opens};
@@ -15,7 +20,6 @@ ghost use Rattle.text_analysis.specs.Points.{GoesBack, GoesOnFrom, IsPointOf};
 ghost use Rattle.text_analysis.specs.Typed.{AreTyped, EndsAfter, IsBegun};
 
 use crate::point::{Point, go_back};
-use crate::weak::{Search, free_in};
 use env_table::{Entry, Kind};
 use module_typing::{Scene, type_item};
 use owned_lists::{push, shared};
@@ -25,6 +29,7 @@ use std::mem;
 use std::rc::Rc;
 use syntax_tree::{Counts, Node, RowName};
 use typing_state::{Depth, Env, NoMemory, NodeRef, Parts};
+use weak_variables::{Search, free_in};
 
 /// The items of a text so far, typed in order on one store. Each call leaves them whole: where memory runs out in the middle of an
 /// item, the state before it is brought back.
@@ -41,7 +46,7 @@ pub struct TypedItems {
     pub items: Vec<Rc<Node>>,
     /// For each item, the variables that were free after it in the types of its own names. Later items may give types to these, and
     /// make no other variable free in them.
-    free: Vec<NodeRef>,
+    free: Vec<Vec<NodeRef>>,
 }
 
 /// The number of the item at a place. Items are counted from 1, and memory is short for one that no number is left for.
@@ -65,17 +70,19 @@ fn names_none(item: &Node) -> bool
     matches!(item.row, RowName::Let | RowName::Break | RowName::Exception)
 }
 
-/// Adds the variables that are free in the types of the names from a place on.
+/// The variables that are free in the types of the names from a place on, and aren't listed yet.
 fn find_free(
     at: &Parts,
     entries: &[Rc<Entry>],
     place: usize,
     search: &mut Search,
-    free: &mut Vec<NodeRef>,
-) -> Result<(), NoMemory> {
+) -> Result<Vec<NodeRef>, NoMemory>
+    ensures lists { IfOk result (λ own. Lists (is_listed search.old) (is_listed search.new) [] (numbers own.items)) }
+    ensures finds { IfOk result (λ own. AreAllValues (entries_of (drop place entries.now)) → Finds at.now.store.nodes (IsRoot (entries_of (drop place entries.now))) (is_listed search.old) (is_listed search.new) [] (numbers own.items)) }
+{
     match entries.get(place..) {
-        Some(entries) => search.add_free(at, entries, free),
-        None => Ok(()),
+        Some(entries) => search.free_of(at, entries),
+        None => Ok(Vec::new(at.alloc())),
     }
 }
 
@@ -145,12 +152,11 @@ impl TypedItems {
             env: self.scene.env.share()?,
             components: self.scene.components.len(),
             makes: self.scene.makes.len(),
-            free: self.free.len(),
             is_plain: self.is_plain,
         })
     }
 
-    /// Goes back to a point, with the items as they are.
+    /// Goes back to a point, with the items as they are, and what was found for them.
     fn go_back(&mut self, point: Point)
         ensures items { self.new.items ≡ self.old.items }
         ensures points { self.new.points ≡ self.old.points }
@@ -158,9 +164,10 @@ impl TypedItems {
         ensures parts { GoesBack point self.old.parts self.new.parts }
         ensures scope { self.new.scene.env ≡ point.env }
         ensures none { point.is_plain ≡ true → NoneStands self.new.scene }
+        ensures free { self.new.free.items ≡ take (length self.old.items.items) self.old.free.items }
     {
         go_back(&mut self.parts, &point);
-        self.free.truncate(point.free);
+        self.free.truncate(self.items.len());
         self.is_plain = point.is_plain;
         let is_named = cut_scene(self.parts.alloc(), &mut self.scene, point);
         self.is_named = self.is_plain || (self.is_named && is_named);
@@ -225,7 +232,9 @@ impl TypedItems {
         ensures done { OnOk result (views_of self.new.items.items ≡ views_of self.old.items.items ++ views_of (item.now ∷ [])) }
         ensures failed { OnErr result (self.new.items.items ≡ self.old.items.items) }
         ensures goes { GoesOnFrom self.old.parts number self.new.parts }
-        ensures ends { OnOk result (number ≡ length self.old.items.items + 1 → (first : Parts) (env : List Entry) → EndsAfter first env self.old → EndsAfter first env self.new) }
+        ensures free { take (length self.old.free.items) self.new.free.items ≡ self.old.free.items }
+        ensures listed { OnOk result (AreListedIn (is_listed search.old) (lists_of self.old.free.items) → AreListedIn (is_listed search.new) (lists_of self.new.free.items)) }
+        ensures ends { OnOk result (number ≡ length self.old.items.items + 1 → AreListedIn (is_listed search.old) (lists_of self.old.free.items) → (first : Parts) (env : List Entry) → EndsAfter first env self.old → EndsAfter first env self.new) }
     {
         let components = self.scene.components.len();
         self.parts.item = number;
@@ -236,13 +245,8 @@ impl TypedItems {
             &mut self.scene,
             Depth::WHOLE,
         )?;
-        find_free(
-            &self.parts,
-            &self.scene.components,
-            components,
-            search,
-            &mut self.free,
-        )?;
+        let own = find_free(&self.parts, &self.scene.components, components, search)?;
+        push(&mut self.free, own)?;
         push(&mut self.items, shared(item)?)?;
         self.is_plain = self.stays_plain(item);
         Ok(())
@@ -252,7 +256,8 @@ impl TypedItems {
     fn type_next(&mut self, item: &Rc<Node>, search: &mut Search) -> Result<(), NoMemory>
         ensures done { OnOk result (views_of self.new.items.items ≡ views_of self.old.items.items ++ views_of (item.now ∷ [])) }
         ensures failed { OnErr result (views_of self.new.items.items ≡ views_of self.old.items.items) }
-        ensures typed { (first : Parts) (env : List Entry) → AreTyped first env self.old → AreTyped first env self.new }
+        ensures listed { OnOk result (AreListedIn (is_listed search.old) (lists_of self.old.free.items) → AreListedIn (is_listed search.new) (lists_of self.new.free.items)) }
+        ensures typed { AreListedIn (is_listed search.old) (lists_of self.old.free.items) → (first : Parts) (env : List Entry) → AreTyped first env self.old → AreTyped first env self.new }
     {
         let number = item_number(self.items.len())?;
         let point = self.point(number)?;
@@ -291,7 +296,9 @@ impl TypedItems {
     }
 
     /// The variables that are free in the types of the items' names, each by its root.
-    pub fn weak(&self) -> Result<Vec<NodeRef>, NoMemory> {
+    pub fn weak(&self) -> Result<Vec<NodeRef>, NoMemory>
+        ensures { IfOk result (λ ws. FreeOf self.now.parts.store.nodes (IsFound (lists_of self.now.free.items)) (numbers ws.items)) }
+    {
         free_in(&self.parts, &self.free)
     }
 }

@@ -15,6 +15,7 @@ ghost use Rattle.prelude_checks.specs.Known.{StartsFirst};
 
 use crate::prelude::text;
 use module_typing::{Scene, built_ins, type_item};
+use prelude_places::of_prelude;
 use resume_parser::{KeptParse, Text};
 use row_parts::Operand;
 use std::alloc::{AllocError, Global};
@@ -60,5 +61,5 @@ pub fn with_prelude<C: Counts>(at: &mut Parts, counts: &mut C) -> Result<Env, No
         type_item(at, Operand::of(item, number), &mut scene, Depth::WHOLE)?;
         number = number.saturating_add(item.size);
     }
-    Ok(scene.env)
+    of_prelude(at.alloc(), &scene.env)
 }

@@ -10,6 +10,7 @@ pub fn asked<'a>(tree: &'a Tree, analysis: &Analysis<'a>) -> Asked<'a>
     ensures tree { result.tree.now ≡ tree.now }
     ensures index { result.index.now ≡ analysis.now.index.now }
     ensures store { result.store.now ≡ analysis.now.store.now }
+    ensures weak { result.weak.now ≡ analysis.now.weak.now }
 {
     Asked {
         tree,

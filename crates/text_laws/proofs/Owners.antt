@@ -1,5 +1,5 @@
 -- The items of a text of `let`, `;;` and exceptions without an argument have numbers of their own, so what they left belongs to different ones.
-use Rattle.std.proofs.Common.{◌≡◌, ◌∙◌, ℕ, zero, suc, ◌+◌, ◌≤◌, Bool, true, Option, Some, None, List, [], ◌∷◌, refl, sym, subst, arith}
+use Rattle.std.proofs.Common.{◌≡◌, ◌∙◌, ℕ, zero, suc, ◌+◌, ◌≤◌, true, Option, Some, None, List, [], ◌∷◌, refl, subst, arith}
 use Rattle.std.specs.Prelude.{slice_get}
 use Rattle.std.proofs.lemmas.Bool.{ne_eqb}
 use Rattle.tree_model.specs.Rows.{Row, let_row, exception_row, break_row}
@@ -22,7 +22,7 @@ use Rattle.typing_laws.proofs.Bools.{no_yes, and_cases}
 use Rattle.binding_rows.specs.Outside.{Left}
 use Rattle.binding_rows.specs.ItemRows.{AreDeclared, AreOwned, none_owned, leaves_none, leaves_types, leaves_one}
 use Rattle.demand_laws.proofs.Bare.{TakesNone, constructor_among, IsBareRow, item_bare}
-use Rattle.text_laws.specs.Reading.{OwnersApart}
+use Rattle.text_laws.specs.Reading.{OwnersApart, NoneDecided}
 
 -- no item that left something has a lower number
 abbrev AreFrom : ℕ → List Left → Type 0
@@ -31,6 +31,7 @@ AreFrom b ls = (k : ℕ) (l : Left) → slice_get ls k ≡ Some l → b ≤ l.ow
 -- they are different ones, from a number on
 record Owned (b : ℕ) (ls : List Left) : Type 0 where
   apart : OwnersApart ls
+  none : NoneDecided ls
   from : AreFrom b ls
 
 -- a context in which a variable is free in the names
@@ -42,17 +43,18 @@ abbrev DeclaresNone : Item → Type 0
 DeclaresNone m = AreDeclared (m.components open_context) → ⊥
 
 owned_none : (b : ℕ) {ls : List Left} → AreOwned [] ls → Owned b ls
-owned_none b none_owned = record { apart = tt; from = λ k l e. absurd (cc) }
+owned_none b none_owned = record { apart = tt; none = tt; from = λ k l e. absurd (cc) }
 
 -- one item, which declares nothing, and others after it
 owned_more : {m : Item} {ms : List Item} {ls : List Left} (b next : ℕ) → m.node ≡ b → DeclaresNone m → b + 1 ≤ next → ((ks : List Left) → AreOwned ms ks → Owned next ks) → AreOwned (m ∷ ms) ls → Owned b ls
-owned_more {ls = ls} b next is_b none lt others (leaves_none h) = let o = others ls h in record { apart = o.apart; from = λ k l e. let f = o.from k l e in omega arith }
+owned_more {ls = ls} b next is_b none lt others (leaves_none h) = let o = others ls h in record { apart = o.apart; none = o.none; from = λ k l e. let f = o.from k l e in omega arith }
 owned_more b next is_b none lt others (leaves_types declared h) = absurd (none (declared open_context))
 owned_more {m = m} {ms = ms} {ls = l ∷ ls} b next is_b none lt others (leaves_one owner fixed h) =
     let o = others ls h in
     let here : l.owner ≡ b = owner ∙ is_b in
     record {
-      apart = ((λ k q e. ne_eqb q.owner l.owner (λ same. let f = o.from k q e in absurd (omega (arith, same, here)))), fixed, o.apart);
+      apart = ((λ k q e. ne_eqb q.owner l.owner (λ same. let f = o.from k q e in absurd (omega (arith, same, here)))), o.apart);
+      none = (fixed, o.none);
       from = from o here;
     }
   where
@@ -106,9 +108,13 @@ items_owned k (t ∷ ts) e bare ls h = by (tree_child (item_base k) 0 t).item (t
   where
     by : (o : Option Item) → IsNumbered (item_base k) o → ((ks : List Left) → AreOwned (items_from (k + 1) ts) ks → Owned (item_base (k + 1)) ks) → (ls : List Left) →
         AreOwned (elim o [ None ↦ items_from (k + 1) ts | Some m ↦ m ∷ items_from (k + 1) ts ]) ls → Owned (item_base k) ls
-    by None numbered others ls h = let o = others ls h in record { apart = o.apart; from = λ j l f. let g = o.from j l f in omega arith }
+    by None numbered others ls h = let o = others ls h in record { apart = o.apart; none = o.none; from = λ j l f. let g = o.from j l f in omega arith }
     by (Some m) numbered others ls h = owned_more (item_base k) (item_base (k + 1)) numbered.0 numbered.1 (omega arith) others h
 
 -- So what the items of such a text left belongs to different ones.
 pub owners_apart : (text : List Tree) → has_values_alone text ≡ true → are_bare text ≡ true → {ls : List Left} → AreOwned (items_of text) ls → OwnersApart ls
 owners_apart text values bare {ls} h = (items_owned 1 text values bare ls h).apart
+
+-- and none of them decided a type
+pub none_left : (text : List Tree) → has_values_alone text ≡ true → are_bare text ≡ true → {ls : List Left} → AreOwned (items_of text) ls → NoneDecided ls
+none_left text values bare {ls} h = (items_owned 1 text values bare ls h).none

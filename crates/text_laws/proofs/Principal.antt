@@ -1,10 +1,13 @@
 -- The types that were found are a principal typing: typing was complete also for what items left.
-use Rattle.std.proofs.Common.{◌≡◌, ◌∙◌, ◌⊎◌, inl, inr, ℕ, zero, suc, ◌+◌, ◌-◌, ◌/◌, ◌%◌, ◌^◌, ◌<◌, nat_lt, Bool, true, false, Option, Some, None, List, [], ◌∷◌, ◌++◌, length, refl, sym, ap, subst, arith, if◌then◌else◌}
+use Rattle.std.proofs.Common.{◌≡◌, ◌∙◌, ◌⊎◌, inl, inr, ℕ, zero, suc, ◌+◌, ◌-◌, ◌/◌, ◌%◌, ◌^◌, ◌<◌, ◌==◌, nat_lt, Bool, true, false, Option, Some, None, List, [], ◌∷◌, ◌++◌, length, refl, sym, ap, subst, arith, if◌then◌else◌}
 use Rattle.std.specs.Prelude.{slice_get}
 use Rattle.std.proofs.lemmas.Nat.{div-add-mod'}
 use Rattle.type_model.specs.Types.{Typ, Var}
 use Rattle.type_model.specs.Substitutions.{Subst, apply}
-use Rattle.type_model.proofs.Applying.{apply_agree}
+use Rattle.type_model.proofs.Applying.{apply_agree, apply_leaves}
+use Rattle.std.specs.Option.{option_or}
+use Rattle.std.proofs.lemmas.Bool.{eqb-true}
+use Rattle.typing_laws.proofs.Bools.{no_yes}
 use Rattle.tree_model.specs.Trees.{Tree}
 use Rattle.signature_model.specs.Entries.{Environment}
 use Rattle.typing_model.specs.Contexts.{Choice}
@@ -22,7 +25,8 @@ use Rattle.typing_conditions.specs.Judging.{FallsShort, judgements}
 use Rattle.typing_conditions.proofs.Adequate.{never_short, kept_of}
 use Rattle.typing_conditions.proofs.Own.{own_of}
 use Rattle.typing_conditions.proofs.Roots.{own_reads}
-use Rattle.binding_rows.specs.Outside.{Left, letters_left, ContinuesItems, ItemsCarried}
+use Rattle.typing_rows.specs.Settled.{Fixes, AreFixed}
+use Rattle.binding_rows.specs.Outside.{Left, letters_left, AreDecided, ContinuesItems, ItemsCarried}
 use Rattle.binding_rows.specs.ItemRows.{AreOwned}
 use Rattle.typing_model.specs.Meanings.{items_of}
 use Rattle.typing_model.specs.Plain.{has_values_alone}
@@ -30,9 +34,10 @@ use Rattle.fault_model.specs.Values.{are_bare}
 use Rattle.site_laws.proofs.Texts.{AreSmall}
 use Rattle.text_laws.specs.Texts.{text_asks, IsTyped}
 use Rattle.typing_conditions.specs.Hiding.{plain_key, is_own, ArePlaced, NoneDoubtful}
-use Rattle.text_laws.specs.Reading.{node_for, recorded_at, type_or, first_there, read_choice, DoubtfulAreOne}
+use Rattle.text_laws.specs.Reading.{node_for, recorded_at, type_or, first_there, decided_in, decided_at, or_type, read_choice, AreClosed, DoubtfulAreOne}
 use Rattle.text_laws.proofs.Kept.{met, enters}
-use Rattle.text_laws.proofs.Reading.{own_is, value_plain, text_typed, values_typed, none_doubted}
+use Rattle.text_laws.proofs.Owners.{none_left}
+use Rattle.text_laws.proofs.Reading.{own_is, value_plain, text_typed, values_typed, none_decided, none_doubted}
 
 place_inside : {A : Type 0} {x : A} (xs : List A) (k : ℕ) → slice_get xs k ≡ Some x → k < length xs
 place_inside [] k e = absurd (cc)
@@ -93,10 +98,27 @@ above n k = grind arith
 back : (n k : ℕ) → (n + k) - n ≡ k
 back n k = omega arith
 
+-- a choice that has the types that are decided has the one that is found for a node
+fixed_is : (ch : Choice) (fs : Fixes) (n : ℕ) (t : Typ) → AreFixed fs ch → decided_in n fs ≡ Some t → ch.type_at n ≡ t
+fixed_is ch [] n t h e = absurd (cc)
+fixed_is ch (f ∷ fs) n t h e = by (n == f.0) refl e (fixed_is ch fs n t h.1)
+  where
+    by : (b : Bool) → (n == f.0) ≡ b → (if b then Some f.1 else decided_in n fs) ≡ Some t → (decided_in n fs ≡ Some t → ch.type_at n ≡ t) → ch.type_at n ≡ t
+    by true same g further = let is : f.1 ≡ t = cc in ap ch.type_at (eqb-true n f.0 same) ∙ h.0 ∙ is
+    by false other g further = further g
+
+decided_is : (ch : Choice) (ls : List Left) (n : ℕ) (t : Typ) → AreDecided ls ch → decided_at n ls ≡ Some t → ch.type_at n ≡ t
+decided_is ch [] n t h e = absurd (cc)
+decided_is ch (l ∷ ls) n t h e = by (decided_in n l.fixed) refl e (decided_is ch ls n t h.1)
+  where
+    by : (o : Option Typ) → decided_in n l.fixed ≡ o → option_or o (decided_at n ls) ≡ Some t → (decided_at n ls ≡ Some t → ch.type_at n ≡ t) → ch.type_at n ≡ t
+    by None is g further = further g
+    by (Some u) is g further = fixed_is ch l.fixed n t h.0 (is ∙ g)
+
 -- the types that are read off at the nodes' own types give those of each other choice by one substitution
 found_general : (b : Sight) (I : Types) → IsOwn b.nodes I → (keys : Letters) (left : List Left) (W : Types) (ch : Choice) → Fits b.nodes W → ((i p m : ℕ) → b.types i p ≡ Some m → ch.type_at (number_in i p) ≡ W m) → ((i p m : ℕ) → b.types i p ≡ Some m → IsNode b.nodes m) →
-    AreGiven keys W ch → AreNodes keys b.nodes → (n : ℕ) → ch.type_at n ≡ apply (gives (length b.nodes) W ch) ((read_choice I b keys left).type_at n)
-found_general b I own_types keys left W ch fits recorded inside given nodes n = by (first_there (recorded_at b n) (node_for (is_own n) keys)) refl
+    AreGiven keys W ch → AreNodes keys b.nodes → AreDecided left ch → AreClosed left → (n : ℕ) → ch.type_at n ≡ apply (gives (length b.nodes) W ch) ((read_choice I b keys left).type_at n)
+found_general b I own_types keys left W ch fits recorded inside given nodes decided closed n = decided_or (decided_at n left) refl
   where
     s : Subst
     s = gives (length b.nodes) W ch
@@ -108,9 +130,13 @@ found_general b I own_types keys left W ch fits recorded inside given nodes n = 
         is ∙ own_types.comes W (fits_loosely b.nodes W fits) m
         ∙ apply_agree W s (I m) (λ v o. let var = own_types.only m v node o in sym (ap (λ c. if c then W v else ch.type_at (v - length b.nodes)) (below (length b.nodes) v (place_inside b.nodes v var.at))))
 
+    decided_or : (o : Option Typ) → decided_at n left ≡ o → ch.type_at n ≡ apply s (or_type (type_or I (Var (length b.nodes + n)) (first_there (recorded_at b n) (node_for (is_own n) keys))) o)
+    decided_or (Some t) e = decided_is ch left n t decided e ∙ sym (apply_leaves s t (λ v o. absurd (no_yes (sym (closed n t e v) ∙ o))))
+    decided_or None e = by (first_there (recorded_at b n) (node_for (is_own n) keys)) refl
+
 -- So where a choice was read off at the nodes' own types, its types are a principal typing of the text.
-pub text_principal : {env : Environment} {text : List Tree} {kept : Site → Bool} {a b : Sight} {G : Letters} (h : IsTyped env text kept a b G) → IsOwn b.nodes h.types → h.choice ≡ read_choice h.types b (G ++ letters_left h.carried.left) h.carried.left → IsPrincipal env text kept h.choice.type_at
-text_principal {env} {text} {kept} {a} {b} {G} h own_types read = record {
+pub text_principal : {env : Environment} {text : List Tree} {kept : Site → Bool} {a b : Sight} {G : Letters} (h : IsTyped env text kept a b G) → AreClosed h.carried.left → IsOwn b.nodes h.types → h.choice ≡ read_choice h.types b (G ++ letters_left h.carried.left) h.carried.left → IsPrincipal env text kept h.choice.type_at
+text_principal {env} {text} {kept} {a} {b} {G} h closed own_types read = record {
   fits = record { choice = h.choice; chosen = λ n. refl; holds = (met h).holds };
   general = λ others fits. found others fits (h.carried.complete (identity h.sound.0 a.nodes) (outermost env kept fits.choice) (enters h kept fits.choice) fits.holds);
 }
@@ -129,7 +155,7 @@ text_principal {env} {text} {kept} {a} {b} {G} h own_types read = record {
           gives (length b.nodes) goes.types fits.choice,
           λ n.
               sym (fits.chosen n)
-              ∙ found_general b h.types own_types keys h.carried.left goes.types fits.choice goes.fits goes.agrees.recorded inside.recorded given nodes n
+              ∙ found_general b h.types own_types keys h.carried.left goes.types fits.choice goes.fits goes.agrees.recorded inside.recorded given nodes goes.decided closed n
               ∙ ap (λ (ch : Choice). apply (gives (length b.nodes) goes.types fits.choice) (ch.type_at n)) (sym read),
         )
 
@@ -139,7 +165,7 @@ pub values_principal : {env : Environment} {text : List Tree} {a b : Sight} {G :
 unfolding values_typed text_typed
 values_principal {env} {text} {b = b} {G = G} p owned none sound values bare small plain J own rest =
     let h = values_typed {env = env} {text = text} p owned none sound values bare small J (own_reads b.nodes J own) (own.known plain) rest in
-    (h, text_principal {env = env} {text = text} h own refl, own, refl)
+    (h, text_principal {env = env} {text = text} h (λ n t e. absurd (let f : None ≡ Some t = sym (none_decided p.left (none_left text values bare owned) n) ∙ e in cc)) own refl, own, refl)
 
 -- The same where none is doubtful: nothing is asked of types then.
 pub sure_principal : {env : Environment} {text : List Tree} {a b : Sight} {G : Letters} (p : ItemsCarried (λ ch. env) (text_asks text) a [] b G) → AreOwned (items_of text) p.left → ((i k : ℕ) → a.types i k ≡ None) → IsSound a.nodes → has_values_alone text ≡ true → are_bare text ≡ true → AreSmall text → IsPlain b.nodes →

@@ -1,6 +1,7 @@
 -- Where nodes that stand for one thing have one type, a choice is read off a state.
 use Rattle.std.proofs.Common.{◌≡◌, ◌∙◌, inl, inr, ℕ, zero, suc, ◌+◌, ◌/◌, ◌%◌, ◌^◌, Bool, true, false, ◌==◌, Option, Some, None, List, [], ◌∷◌, ◌++◌, refl, sym, ap, subst, if◌then◌else◌, length}
 use Rattle.std.specs.Prelude.{slice_get}
+use Rattle.std.specs.Option.{option_or}
 use Rattle.std.proofs.lemmas.Bool.{eqb-true}
 use Rattle.std.proofs.lemmas.Nat.{div-mul-add, mod-mul-add, div-add-mod'}
 use Rattle.std.proofs.lemmas.Slice.Eq.{bytes_eq-Decides}
@@ -25,16 +26,16 @@ use Rattle.typing_conditions.specs.Judging.{Judgement, AreKept}
 use Rattle.typing_conditions.specs.Carrying.{Asks}
 use Rattle.typing_conditions.proofs.Adequate.{kept_of}
 use Rattle.site_laws.proofs.Texts.{AreSmall}
-use Rattle.typing_rows.specs.Settled.{AreFixed}
+use Rattle.typing_rows.specs.Settled.{Fixes, AreFixed}
 use Rattle.binding_rows.specs.ItemRows.{AreOwned}
 use Rattle.binding_rows.specs.Outside.{Left, IsLeft, letters_left, AreLeft, ReadsItems, ItemsCarried}
 use Rattle.text_laws.specs.Texts.{AreApart, NoneCloses, text_asks, AsksOnce, IsTyped}
 use Rattle.typing_conditions.specs.Hiding.{plain_key, is_own, is_letter, is_filled, is_doubtful, HasCopy, ArePlaced, HaveOneNode, NoneDoubtful}
 use Rattle.typing_conditions.proofs.Hiding.{split_get, in_first, in_second, copy_itself}
-use Rattle.text_laws.specs.Reading.{node_for, recorded_at, written_at, type_or, first_there, read_choice, OwnersApart, AreOne, DoubtfulAreOne}
+use Rattle.text_laws.specs.Reading.{node_for, recorded_at, written_at, type_or, first_there, decided_in, decided_at, or_type, read_choice, OwnersApart, NoneDecided, DecidedAlone, AreOne, DoubtfulAreOne}
 use Rattle.text_laws.proofs.Sites.{kept_as_judged, kept_among}
 use Rattle.text_laws.proofs.Orderly.{none_closing}
-use Rattle.text_laws.proofs.Owners.{owners_apart}
+use Rattle.text_laws.proofs.Owners.{owners_apart, none_left}
 use Rattle.text_laws.proofs.Once.{judged_once, values_once}
 use Rattle.typing_laws.proofs.Settled.{values_plain}
 
@@ -115,7 +116,7 @@ known_for (filled n o) t h = tt
 known_for (without_unknown key) t h = h
 known_for (doubtful key) t h = known_for key t h
 
-module _ (V : Types) (b : Sight) (keys : Letters) (left : List Left) (one : AreOne V b keys) where
+module _ (V : Types) (b : Sight) (keys : Letters) (left : List Left) (one : AreOne V b keys) (alone : DecidedAlone b keys left) where
   abbrev ch : Choice
   ch = read_choice V b keys left
 
@@ -133,7 +134,7 @@ module _ (V : Types) (b : Sight) (keys : Letters) (left : List Left) (one : AreO
   value_there k x at = value_plain ch x.0 ∙ by (plain_key x.0) refl
     where
       by : (q : Key) → plain_key x.0 ≡ q → value_of ch q ≡ V x.1
-      by (own n) is = own_found n (recorded_at b n) refl k x at is
+      by (own n) is = ap (or_type (type_or V (Var (length b.nodes + n)) (first_there (recorded_at b n) (node_for (is_own n) keys)))) (alone.letters n k x at is) ∙ own_found n (recorded_at b n) refl k x at is
       by (letter n j) is = letter_found (is_letter n j) (letter n j) (letter_is n j) (letter_itself n j) k x at is (Var n)
       by (filled n o) is = letter_found (is_filled n o) (filled n o) (filled_is n o) (filled_itself n o) k x at is (Var n)
       by (without_unknown z) is = absurd (plain_is x.0 z is)
@@ -150,18 +151,24 @@ module _ (V : Types) (b : Sight) (keys : Letters) (left : List Left) (one : AreO
   recorded_there i p m e =
       let low = one.places i p m e in
       let here : recorded_at b (number_in i p) ≡ Some m = (λ k. b.types (div-mul-add i (2 ^ 32) p low k) (mod-mul-add i (2 ^ 32) p low k)) ∙ e in
-      ap (λ o. type_or V (Var (length b.nodes + number_in i p)) (first_there o (node_for (is_own (number_in i p)) keys))) here
+      let n = number_in i p in
+      ap (or_type (type_or V (Var (length b.nodes + n)) (first_there (recorded_at b n) (node_for (is_own n) keys)))) (alone.recorded i p m e) ∙ ap (λ o. type_or V (Var (length b.nodes + n)) (first_there o (node_for (is_own n) keys))) here
 
 -- a type variable that is written in an item is found there
 written_found : (front : List Left) (l : Left) (ls : List Left) (x : Name) → ((k : ℕ) (m : Left) → slice_get front k ≡ Some m → (l.owner == m.owner) ≡ false) → written_at l.owner x (front ++ l ∷ ls) ≡ l.written x
 written_found [] l ls x apart = ap (λ b. if b then l.written x else written_at l.owner x ls) (eqb_same l.owner)
 written_found (m ∷ front) l ls x apart = ap (λ b. if b then m.written x else written_at l.owner x (front ++ l ∷ ls)) (apart zero m refl) ∙ written_found front l ls x (λ k z e. apart (suc k) z e)
 
+-- a choice that has each of some types has them all
+fixed_each : (ch : Choice) (fs : Fixes) → ((j : ℕ) (f : ℕ × Typ) → slice_get fs j ≡ Some f → ch.type_at f.0 ≡ f.1) → AreFixed fs ch
+fixed_each ch [] h = tt
+fixed_each ch (f ∷ fs) h = (h zero f refl, fixed_each ch fs (λ j g e. h (suc j) g e))
+
 -- what items left is read off
-left_there : (nodes : List Node) (V : Types) (b : Sight) (keys : Letters) (one : AreOne V b keys) → ((m : ℕ) → IsKnown (V m)) → (all front ls : List Left) → all ≡ front ++ ls → OwnersApart ls → ((j k : ℕ) (l m : Left) → slice_get front j ≡ Some m → slice_get ls k ≡ Some l → (l.owner == m.owner) ≡ false) →
+left_there : (nodes : List Node) (V : Types) (b : Sight) (keys : Letters) (one : AreOne V b keys) → ((m : ℕ) → IsKnown (V m)) → (all front ls : List Left) → DecidedAlone b keys all → ((k : ℕ) (l : Left) → slice_get ls k ≡ Some l → (j : ℕ) (f : ℕ × Typ) → slice_get l.fixed j ≡ Some f → decided_at f.0 all ≡ Some f.1) → all ≡ front ++ ls → OwnersApart ls → ((j k : ℕ) (l m : Left) → slice_get front j ≡ Some m → slice_get ls k ≡ Some l → (l.owner == m.owner) ≡ false) →
     ((k : ℕ) (x : Key × ℕ) → slice_get (letters_left ls) k ≡ Some x → (j : ℕ) × (slice_get keys j ≡ Some x)) → AreLeft nodes ls V (read_choice V b keys all)
-left_there nodes V b keys one known all front [] e apart others among = tt
-left_there nodes V b keys one known all front (l ∷ ls) e apart others among = (here, left_there nodes V b keys one known all (front ++ l ∷ []) ls (e ∙ more front) apart.2 next (λ k x g. let (j, at) = in_second l.letters (letters_left ls) k x g in among j x at))
+left_there nodes V b keys one known all front [] alone decided e apart others among = tt
+left_there nodes V b keys one known all front (l ∷ ls) alone decided e apart others among = (here, left_there nodes V b keys one known all (front ++ l ∷ []) ls alone (λ k m g. decided (suc k) m g) (e ∙ more front) apart.1 next (λ k x g. let (j, at) = in_second l.letters (letters_left ls) k x g in among j x at))
   where
     more : (f : List Left) → f ++ l ∷ ls ≡ (f ++ l ∷ []) ++ ls
     more [] = refl
@@ -172,10 +179,10 @@ left_there nodes V b keys one known all front (l ∷ ls) e apart others among = 
 
     here : IsLeft nodes l V (read_choice V b keys all)
     here = record {
-      letters = given_there V b keys all one known l.letters (λ k x g. let (j, at) = in_first l.letters (letters_left ls) k x g in among j x at);
+      letters = given_there V b keys all one alone known l.letters (λ k x g. let (j, at) = in_first l.letters (letters_left ls) k x g in among j x at);
       written = λ x m g. ap (type_or V (Tuple Nil)) (is_written x ∙ g);
       others = λ k x g none v bound. ap (λ o. occurs v (type_or V (Tuple Nil) o)) (is_written x ∙ none);
-      fixed = subst (λ fs. AreFixed fs (read_choice V b keys all)) (sym apart.1) tt;
+      fixed = fixed_each (read_choice V b keys all) l.fixed (λ j f g. ap (or_type (type_or V (Var (length b.nodes + f.0)) (first_there (recorded_at b f.0) (node_for (is_own f.0) keys)))) (decided zero l refl j f g));
     }
 
     next : (j k : ℕ) (q m : Left) → slice_get (front ++ l ∷ []) j ≡ Some m → slice_get ls k ≡ Some q → (q.owner == m.owner) ≡ false
@@ -186,6 +193,26 @@ left_there nodes V b keys one known all front (l ∷ ls) e apart others among = 
         last [] (suc i) g among = absurd (cc)
         last (z ∷ f) zero g among = among zero g
         last (z ∷ f) (suc i) g among = last f i g (λ n e. among (suc n) e)
+
+-- where no declaration decided a type there is none
+pub none_decided : (ls : List Left) → NoneDecided ls → (n : ℕ) → decided_at n ls ≡ None
+none_decided [] none n = refl
+none_decided (l ∷ ls) none n = ap (λ fs. option_or (decided_in n fs) (decided_at n ls)) none.0 ∙ none_decided ls none.1 n
+
+none_fixed : (ls : List Left) → NoneDecided ls → (k : ℕ) (l : Left) → slice_get ls k ≡ Some l → l.fixed ≡ []
+none_fixed [] none k l e = absurd (cc)
+none_fixed (m ∷ ls) none zero l e = let same : m ≡ l = cc in subst (λ (z : Left). z.fixed ≡ []) same none.0
+none_fixed (m ∷ ls) none (suc k) l e = none_fixed ls none.1 k l e
+
+pub alone_none : {b : Sight} {keys : Letters} {left : List Left} → NoneDecided left → DecidedAlone b keys left
+alone_none {left = left} none = record {
+  recorded = λ i p m e. none_decided left none (number_in i p);
+  letters = λ n k x e is. none_decided left none n;
+  one = λ k l e j f h. absurd (let g : slice_get [] j ≡ Some f = subst (λ fs. slice_get fs j ≡ Some f) (none_fixed left none k l e) h in no_entry j f g);
+}
+  where
+    no_entry : (j : ℕ) (f : ℕ × Typ) → slice_get [] j ≡ Some f → ⊥
+    no_entry j f e = absurd (cc)
 
 -- Where letters without doubt have one node for one thing, only the others are asked for.
 left_one : (V : Types) {b : Sight} (left : Letters) → HaveOneNode b left → DoubtfulAreOne V b left → AreOne V b left
@@ -219,7 +246,7 @@ letters_one V {b} open_ones left among one h = record {
     copied k x e = elim (split_get open_ones left k x e) [ inl r ↦ among r.0 x r.1 | inr r ↦ copy_itself left r.0 x r.1 ]
 
 -- What is read off the state after a text, in which no unknown type stands, whatever is kept and was judged.
-module _ (env : Environment) (text : List Tree) {a b : Sight} {G : Letters} (p : ItemsCarried (λ ch. env) (text_asks text) a [] b G) (V : Types) (reads : IsReading b.nodes V) (known : (m : ℕ) → IsKnown (V m)) (one : AreOne V b (G ++ letters_left p.left)) (owners : OwnersApart p.left) where
+module _ (env : Environment) (text : List Tree) {a b : Sight} {G : Letters} (p : ItemsCarried (λ ch. env) (text_asks text) a [] b G) (V : Types) (reads : IsReading b.nodes V) (known : (m : ℕ) → IsKnown (V m)) (one : AreOne V b (G ++ letters_left p.left)) (owners : OwnersApart p.left) (alone : DecidedAlone b (G ++ letters_left p.left) p.left) where
   abbrev found : Choice
   found = read_choice V b (G ++ letters_left p.left) p.left
 
@@ -228,11 +255,11 @@ module _ (env : Environment) (text : List Tree) {a b : Sight} {G : Letters} (p :
     env = refl;
     reads = reads;
     agrees = record {
-      recorded = recorded_there V b (G ++ letters_left p.left) p.left one;
+      recorded = recorded_there V b (G ++ letters_left p.left) p.left one alone;
       known = λ i k m e. known m;
-      given = given_there V b (G ++ letters_left p.left) p.left one known G (in_first G (letters_left p.left));
+      given = given_there V b (G ++ letters_left p.left) p.left one alone known G (in_first G (letters_left p.left));
     };
-    left_too = left_there b.nodes V b (G ++ letters_left p.left) one known p.left [] p.left refl owners (λ j k l m g h. absurd (cc)) (in_second G (letters_left p.left));
+    left_too = left_there b.nodes V b (G ++ letters_left p.left) one known p.left [] p.left alone alone.one refl owners (λ j k l m g h. absurd (cc)) (in_second G (letters_left p.left));
     kept = h;
   }
 
@@ -248,26 +275,26 @@ open_left p k x e = elim (p.opened k x e) [ inl before ↦ absurd (let none : No
 
 -- So items that were typed from a state in which nothing is recorded are those of a typed text, with the demands that were kept, at each reading in which no unknown type stands.
 unfoldable pub text_typed : {env : Environment} {text : List Tree} {a b : Sight} {G : Letters} (p : ItemsCarried (λ ch. env) (text_asks text) a [] b G) → ((i k : ℕ) → a.types i k ≡ None) → IsSound a.nodes → AsksOnce env text → has_no_modules text ≡ true →
-    (V : Types) → IsReading b.nodes V → ((m : ℕ) → IsKnown (V m)) → DoubtfulAreOne V b (letters_left p.left) → OwnersApart p.left → IsTyped env text (kept_of p.judged) a b G
-text_typed {env} {text} {b = b} {G = G} p none sound once plain V reads known rest owners =
+    (V : Types) → IsReading b.nodes V → ((m : ℕ) → IsKnown (V m)) → DoubtfulAreOne V b (letters_left p.left) → OwnersApart p.left → DecidedAlone b (G ++ letters_left p.left) p.left → IsTyped env text (kept_of p.judged) a b G
+text_typed {env} {text} {b = b} {G = G} p none sound once plain V reads known rest owners alone =
     let one = letters_one V G (letters_left p.left) (open_left p) (p.settled.one rest.places) rest in
     let kept = kept_of p.judged in
-    let there = read_off env text p V reads known one owners kept p.judged (kept_as_judged [] p.judged (text_apart env text p V reads known one owners once)) in
+    let there = read_off env text p V reads known one owners alone kept p.judged (kept_as_judged [] p.judged (text_apart env text p V reads known one owners alone once)) in
     record {
       none_recorded = none;
       sound = sound;
       carried = p;
-      none_closes = subst NoneCloses (p.sound V (outermost env kept (found env text p V reads known one owners)) there).same (none_closing env text kept (found env text p V reads known one owners) plain);
+      none_closes = subst NoneCloses (p.sound V (outermost env kept (found env text p V reads known one owners alone)) there).same (none_closing env text kept (found env text p V reads known one owners alone) plain);
       only = λ s e. kept_among p.judged s e;
       types = V;
-      choice = found env text p V reads known one owners;
+      choice = found env text p V reads known one owners alone;
       reads = there;
     }
 
 -- The same of a text of `let`, `;;` and exceptions without an argument, whose items aren't too large, where what was left was left by its items.
 unfoldable pub values_typed : {env : Environment} {text : List Tree} {a b : Sight} {G : Letters} (p : ItemsCarried (λ ch. env) (text_asks text) a [] b G) → AreOwned (items_of text) p.left → ((i k : ℕ) → a.types i k ≡ None) → IsSound a.nodes → has_values_alone text ≡ true → are_bare text ≡ true → AreSmall text →
     (V : Types) → IsReading b.nodes V → ((m : ℕ) → IsKnown (V m)) → DoubtfulAreOne V b (letters_left p.left) → IsTyped env text (kept_of p.judged) a b G
-values_typed {env} {text} p owned none sound values bare small V reads known one = text_typed {text = text} p none sound (values_once env text values small) (values_plain text values) V reads known one (owners_apart text values bare owned)
+values_typed {env} {text} p owned none sound values bare small V reads known one = text_typed {text = text} p none sound (values_once env text values small) (values_plain text values) V reads known one (owners_apart text values bare owned) (alone_none (none_left text values bare owned))
 
 -- Nothing is asked for where none is doubtful.
 pub none_doubted : (V : Types) {b : Sight} (left : Letters) → NoneDoubtful left → ArePlaced b → DoubtfulAreOne V b left

@@ -6,6 +6,7 @@ use Rattle.tree_model.specs.Trees.{Tree}
 use Rattle.resume_parser.specs.Kept.{SharesFront}
 use Rattle.analysis_api.specs.Typed.{GoesOn, SameFront}
 use Rattle.text_reading.specs.Types.{has_begun, held, items_or_none}
+use Rattle.analysis_api.specs.declared.Analyser.{Ghosts}
 use Rattle.text_reading.specs.declared.types.KeptTypes.{KeptTypes}
 
 take_zero : (xs : List Tree) → take 0 xs ≡ []
@@ -33,7 +34,7 @@ front_on holds before now known shared front h s is = record {
 }
 
 -- where no typer has begun, no items are held
-none_held : {A : Type 0} (items : A → List Tree) (k : KeptTypes A) → has_begun k ≡ false → held items k ≡ []
+none_held : {A : Type 0} {g : Ghosts A} (items : A → List Tree) (k : KeptTypes A g) → has_begun k ≡ false → held items k ≡ []
 none_held items k is = by k.typer is
   where
     by : (o : Option _) → is_some o ≡ false → items_or_none (option_map items o) ≡ []
@@ -46,7 +47,7 @@ on_err (Ok x) p = tt
 on_err (Err e) p = p
 
 -- a typer that couldn't begin holds none, and has typed none
-pub goes_nowhere : {A : Type 0} (items : A → List Tree) (old new : KeptTypes A) (trees : List Tree) (before now : ℕ) → has_begun old ≡ false → held items new ≡ [] → now ≡ before → GoesOn (held items old) trees (held items new) before now
+pub goes_nowhere : {A : Type 0} {g : Ghosts A} (items : A → List Tree) (old new : KeptTypes A g) (trees : List Tree) (before now : ℕ) → has_begun old ≡ false → held items new ≡ [] → now ≡ before → GoesOn (held items old) trees (held items new) before now
 goes_nowhere items old new trees before now begun none typed = record {
   same = 0;
   front = record { front = front_none (held items old) trees; longest = λ m h. subst (λ (hs : List Tree). m ≤ length hs) (none_held items old begun) h.left };

@@ -11,6 +11,7 @@ use Rattle.text_reading.specs.PlainTexts.{IsReadAs}
 use Rattle.text_reading.specs.Structures.{parsed_in, AreItemsOf, IsParsedAs}
 use Rattle.text_reading.specs.Types.{held, items_or_none, known}
 use Rattle.text_reading.specs.declared.reading.ReadText.{ReadText}
+use Rattle.analysis_api.specs.declared.Analyser.{Ghosts}
 use Rattle.text_reading.specs.declared.types.KeptTypes.{KeptTypes}
 
 -- the items of a text are one list
@@ -48,7 +49,7 @@ pub same_known : (xs ys : List Tree) (k : Option (List Tree)) → Some xs ≡ k 
 same_known xs ys k is known = cc
 
 -- the items that are known are those that are held
-pub known_held : {A : Type 0} (items : A → List Tree) (k : KeptTypes A) (ts : List Tree) → known items k ≡ Some ts → held items k ≡ ts
+pub known_held : {A : Type 0} {g : Ghosts A} (items : A → List Tree) (k : KeptTypes A g) (ts : List Tree) → known items k ≡ Some ts → held items k ≡ ts
 known_held items k ts is = by k.is_current (option_map items k.typer) is
   where
     by : (c : Bool) (o : Option (List Tree)) → (if c then o else None) ≡ Some ts → items_or_none o ≡ ts

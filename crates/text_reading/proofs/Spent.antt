@@ -12,11 +12,12 @@ use Rattle.analysis_api.specs.Typed.{more_typed, GoesOn, LongestFront}
 use Rattle.text_reading.specs.Structures.{AreItemsOf}
 use Rattle.text_reading.specs.Trials.{ReadsWhole, Tried, Tries, TriesAll, TypesSome}
 use Rattle.text_reading.specs.Types.{has_begun, held, known, opening}
+use Rattle.analysis_api.specs.declared.Analyser.{Ghosts}
 use Rattle.text_reading.specs.declared.types.KeptTypes.{KeptTypes}
 use Rattle.text_reading.proofs.Knowing.{known_held}
 
 -- a typer that was given the items of a text, for want of memory too
-pub typed_some : {A T E : Type 0} (items : A → List Tree) (r : Result T E) (before after : KeptTypes A) (text : List ℕ) (p : Parsed) (a b : Tallies) → AreItemsOf text (trees_of p.tree) → OnOk r (known items after ≡ Some (trees_of p.tree))
+pub typed_some : {A T E : Type 0} {g : Ghosts A} (items : A → List Tree) (r : Result T E) (before after : KeptTypes A g) (text : List ℕ) (p : Parsed) (a b : Tallies) → AreItemsOf text (trees_of p.tree) → OnOk r (known items after ≡ Some (trees_of p.tree))
     → OnOk r ((n : ℕ) × LongestFront (held items before) (trees_of p.tree) n × (b.typed ≡ more_typed (length p.tree.items.items - n) a.typed)) → OnErr r (GoesOn (held items before) (trees_of p.tree) (held items after) a.typed b.typed)
     → TypesSome text (held items before) (held items after) a.typed b.typed
 typed_some items (Ok x) before after text p a b are there (n, longest, typed) failed =
@@ -49,7 +50,7 @@ tries_typed opens text old new a b c typed types begun read unread = record {
 }
 
 -- one whose tree the typer was given
-pub tries_refreshed : {A T E : Type 0} (items : A → List Tree) (r : Result T E) (opens text own : List ℕ) (ready : Bool) (old : Tried) (mid after : KeptTypes A) (p : Parsed) (a b c : Tallies) → AreItemsOf text (trees_of p.tree) → held items mid ≡ old.holds → has_begun mid ≡ old.begun
+pub tries_refreshed : {A T E : Type 0} {g : Ghosts A} (items : A → List Tree) (r : Result T E) (opens text own : List ℕ) (ready : Bool) (old : Tried) (mid after : KeptTypes A g) (p : Parsed) (a b c : Tallies) → AreItemsOf text (trees_of p.tree) → held items mid ≡ old.holds → has_begun mid ≡ old.begun
     → OnOk r (known items after ≡ Some (trees_of p.tree)) → OnOk r ((n : ℕ) × LongestFront (held items mid) (trees_of p.tree) n × (c.typed ≡ more_typed (length p.tree.items.items - n) b.typed))
     → OnErr r (GoesOn (held items mid) (trees_of p.tree) (held items after) b.typed c.typed) → b.typed ≡ a.typed → ReadsWhole text a b → (has_begun mid ≡ true → has_begun after ≡ true)
     → ((ps : List Tok) → Lex opens ps → c.lexed ≤ b.lexed + opening (length ps) (has_begun mid)) → ((ps : List Tok) → Lex opens ps → c.shifted ≤ b.shifted + opening (length ps) (has_begun mid)) → Tries opens text old (record { text = own; begun = has_begun after; ready = ready; holds = held items after }) a c

@@ -1,5 +1,6 @@
 -- What a text was read as, and what is known of its types.
 pub mod PlainTexts
+pub mod Settled
 pub mod Structures
 pub mod TreeCodes
 pub mod Trials

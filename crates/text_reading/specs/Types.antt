@@ -2,6 +2,7 @@
 use Rattle.std.specs.Prelude.{◌≡◌, ℕ, Bool, List, [], Option, Some, None, is_some, option_map, if◌then◌else◌}
 use Rattle.tree_model.specs.Trees.{Tree}
 use Rattle.analysis_api.specs.declared.Analysis.{Analysis}
+use Rattle.analysis_api.specs.declared.Analyser.{Ghosts}
 use Rattle.text_reading.specs.declared.types.Found.{Found}
 use Rattle.text_reading.specs.declared.types.Found.TheVariants.{Kept, New}
 use Rattle.text_reading.specs.declared.types.KeptTypes.{KeptTypes}
@@ -12,19 +13,19 @@ items_or_none None = []
 items_or_none (Some items) = items
 
 -- the items whose types are held, be they those of the present text or not
-abbrev pub held : {A : Type 0} → (A → List Tree) → KeptTypes A → List Tree
+abbrev pub held : {A : Type 0} {g : Ghosts A} → (A → List Tree) → KeptTypes A g → List Tree
 held items k = items_or_none (option_map items k.typer)
 
 -- the items whose types are known, where these are those of the present text
-abbrev pub known : {A : Type 0} → (A → List Tree) → KeptTypes A → Option (List Tree)
+abbrev pub known : {A : Type 0} {g : Ghosts A} → (A → List Tree) → KeptTypes A g → Option (List Tree)
 known items k = if k.is_current then option_map items k.typer else None
 
 -- how many of the items that are held are known to be those of the present tree
-abbrev pub known_front : {A : Type 0} → KeptTypes A → ℕ
+abbrev pub known_front : {A : Type 0} {g : Ghosts A} → KeptTypes A g → ℕ
 known_front k = k.front
 
 -- whether a typer has begun
-abbrev pub has_begun : {A : Type 0} → KeptTypes A → Bool
+abbrev pub has_begun : {A : Type 0} {g : Ghosts A} → KeptTypes A g → Bool
 has_begun k = is_some k.typer
 
 -- how many of the prelude's tokens, of which there are n, are still to be read: all, until a typer has begun
@@ -35,6 +36,11 @@ opening n begun = if begun then 0 else n
 abbrev pub items_in : {A : Type 0} → (A → List Tree) → Found A → List Tree
 items_in items (Kept a) = items a.now
 items_in items (New a) = items a
+
+-- what holds of a typer that is kept or new
+abbrev pub holds_in : {A : Type 0} → (A → Type 0) → Found A → Type 0
+holds_in P (Kept a) = P a.now
+holds_in P (New a) = P a
 
 -- this is what a typer finds that holds these items, and no others
 abbrev pub IsOf : {A : Type 0} → (A → List Tree) → (A → Analysis → Type 0) → List Tree → Analysis → Type 0

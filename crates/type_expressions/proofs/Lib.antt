@@ -7,3 +7,4 @@ pub mod Filled
 pub mod Answering
 pub mod Naming
 pub mod Untyped
+pub mod Treating

@@ -16,6 +16,7 @@ ghost use Rattle.typing_rows.specs.Declaring.{declared_in, DeclaresTo, NamesTo};
 ghost use Rattle.typing_rows.specs.Operands.{EndsName, EndsParentheses, EndsPlainRow, EndsRow, MakesArrowOver, ReadsFront, ReadsGiven, ReadsOperand, ReadsOperands, ReadsPart, ReadsVariable};
 ghost use Rattle.signature_model.specs.Declarations.{Name};
 ghost use Rattle.typing_rows.specs.DeclaredContracts.{SettlesDeclared, SettlesNamed};
+ghost use Rattle.typing_rows.specs.Treating.{TreatsFront, TreatsGiven, TreatsOperand, TreatsOperands, TreatsPart};
 ghost use Rattle.typing_rows.specs.DeclaredOperands.{SettlesFront, SettlesGiven, SettlesName, SettlesOperand, SettlesOperands, SettlesParentheses, SettlesPart, SettlesPlainRow, SettlesRow, SettlesVariable};
 ghost use Rattle.declared_rows.specs.Contracts.{MakesUnknown, DenotesDeclared, DenotesNamed};
 ghost use Rattle.declared_rows.specs.Operands.{DenotesEnds, DenotesFront, DenotesGiven, DenotesName, DenotesOperand, DenotesOperands, DenotesParentheses, DenotesPart, DenotesPlain, DenotesVariable, MakesArrow};
@@ -92,6 +93,7 @@ pub fn read_type(
     ensures settles { IfOk result (λ m. (names : List Name) → IsOver variables.now names → SettlesOperand at.old at.new env.now names (operand_view ty.entry)) }
     ensures means { IfOk result (λ m. (names : List Name) (ps : List ℕ) → IsOver variables.now names → HasNodes variables.now ps → DenotesOperand at.old at.new env.now names ps (operand_view ty.entry) m.0) }
     ensures recorded { OnOk result (IsRecorded at.new ty.entry.number) }
+    ensures treats { OnOk result (TreatsOperand at.old at.new env.now (operand_view ty.entry)) }
     ensures untyped { OnOk result (Untyped at.old at.new) }
     ensures goes { Goes at.old at.new }
 {
@@ -113,6 +115,7 @@ fn read_row(
     ensures carries { IfOk result (λ r. IsOfItem variables.now → ReadsPart at.old at.new env.now ty.entry.number (place_of ty.entry.span) (part_of ty.entry.node ty.entry.span) r.ty.0) }
     ensures settles { IfOk result (λ r. (names : List Name) → IsOver variables.now names → SettlesPart at.old at.new env.now names ty.entry.number (place_of ty.entry.span) (part_of ty.entry.node ty.entry.span)) }
     ensures means { IfOk result (λ r. (names : List Name) (ps : List ℕ) → IsOver variables.now names → HasNodes variables.now ps → DenotesPart at.old at.new env.now names ps ty.entry.number (place_of ty.entry.span) (part_of ty.entry.node ty.entry.span) r.ty.0) }
+    ensures treats { OnOk result (TreatsPart at.old at.new env.now ty.entry.number (place_of ty.entry.span) (part_of ty.entry.node ty.entry.span)) }
     ensures untyped { OnOk result (Untyped at.old at.new) }
     ensures goes { Goes at.old at.new }
 {
@@ -151,6 +154,7 @@ fn read_parts(
     ensures carries { IfOk result (λ ms. IsOfItem variables.now → ReadsFront at.old at.new env.now number (node_view node.now) (numbers ms.items)) }
     ensures settles { IfOk result (λ ms. (names : List Name) → IsOver variables.now names → SettlesFront at.old at.new env.now names number (node_view node.now) (numbers ms.items)) }
     ensures means { IfOk result (λ ms. (names : List Name) (ps : List ℕ) → IsOver variables.now names → HasNodes variables.now ps → DenotesFront at.old at.new env.now names ps number (node_view node.now) (numbers ms.items)) }
+    ensures treats { OnOk result (TreatsFront at.old at.new env.now number (node_view node.now)) }
     ensures untyped { OnOk result (Untyped at.old at.new) }
     ensures goes { Goes at.old at.new }
 {
@@ -176,6 +180,7 @@ fn read_given(
     ensures settles { IfOk result (λ ms. (names : List Name) → IsOver variables.now names → SettlesGiven at.old at.new env.now names (operand_view left.entry) (numbers ms.items)) }
     ensures means { IfOk result (λ ms. (names : List Name) (ps : List ℕ) → IsOver variables.now names → HasNodes variables.now ps → DenotesGiven at.old at.new env.now names ps (operand_view left.entry) (numbers ms.items)) }
     ensures recorded { OnOk result (IsRecorded at.new left.entry.number) }
+    ensures treats { OnOk result (TreatsGiven at.old at.new env.now (operand_view left.entry)) }
     ensures untyped { OnOk result (Untyped at.old at.new) }
     ensures goes { Goes at.old at.new }
 {
@@ -203,6 +208,7 @@ fn read_each(
     ensures carries { IfOk result (λ ms. IsOfItem variables.now → ReadsOperands at.old at.new env.now (map operand_view parts.now) (numbers ms.items)) }
     ensures settles { IfOk result (λ ms. (names : List Name) → IsOver variables.now names → SettlesOperands at.old at.new env.now names (map operand_view parts.now) (numbers ms.items)) }
     ensures means { IfOk result (λ ms. (names : List Name) (ps : List ℕ) → IsOver variables.now names → HasNodes variables.now ps → DenotesOperands at.old at.new env.now names ps (map operand_view parts.now) (numbers ms.items)) }
+    ensures treats { OnOk result (TreatsOperands at.old at.new env.now (map operand_view parts.now)) }
     ensures untyped { OnOk result (Untyped at.old at.new) }
     ensures goes { Goes at.old at.new }
 {

@@ -13,6 +13,8 @@ use Rattle.typing_model.specs.Demands.{Site, Condition, treated, known, AllHold}
 use Rattle.typing_model.specs.Contexts.{Choice}
 use Rattle.typing_model.specs.Typings.{conditions_of, IsKept, IsPrincipal}
 use Rattle.typing_model.specs.First.{IsFirst}
+use Rattle.typing_model.specs.Plain.{has_lets_alone}
+use Rattle.typed_model.specs.Weak.{AreWeak}
 
 -- the number of a node among those of all items
 abbrev pub number_of : Id → ℕ
@@ -54,8 +56,9 @@ pub record IsShownAs (E : Environment) (weak : List ℕ) (t : Typ) (shown : List
 pub record IsShownAt {items : List Tree} (t : IsTypingOf items) (weak : List ℕ) (n : Typed) (shown : List ℕ) : Type 0 where
   pub each : (names : Environment) (u : Typ) → IsToldTyped (number_of n.id) names u (asked t) → IsShownAs names weak (t.choice.type_at (number_of n.id)) shown
 
--- Nodes of items are shown with these types: those of one principal typing, in which some variables are weak; which ones stays open.
+-- Nodes of items are shown with these types: those of one principal typing, in which some variables are weak: where the items are `let` and `;;` alone, those that are free in the names after them.
 pub record AreShown (items : List Tree) (nodes : List Typed) (texts : List (List ℕ)) : Type 0 where
   pub typing : IsTypingOf items
   pub weak : List ℕ
+  pub are_weak : has_lets_alone items ≡ true → AreWeak items typing.env typing.kept typing.choice weak
   pub each : AllZip (IsShownAt typing weak) nodes texts

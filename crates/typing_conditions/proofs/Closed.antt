@@ -44,7 +44,7 @@ HasHeld F d H held n = (V : Types) (ch : Choice) → Loose d.nodes V → Agrees 
 -- the code's entries of the names of a group, whose nodes are among those that were closed; each has the name's type, in which no unknown type stands
 pub data ClosedNames (F : Frame) (d : Sight) (H : Letters) (names : List ℕ) : List Entry → List Bound → List ℕ → Type 0 where
   no_closed : ClosedNames F d H names [] [] []
-  one_closed : {e : Entry} {es : List Entry} {b : Bound} {bs : List Bound} {ns : List ℕ} (n : NodeRef) → IsEntry e b.name n → IsIn names n.0 →
+  one_closed : {e : Entry} {es : List Entry} {b : Bound} {bs : List Bound} {ns : List ℕ} (n : NodeRef) → IsEntry e b.name (rules.in_text b.place) n → IsIn names n.0 →
       ((V : Types) (ch : Choice) → Loose d.nodes V → Agrees F.owner d H V ch → (b.has_type (context_of ch) ≡ V n.0) × IsKnown (V n.0)) → ClosedNames F d H names es bs ns → ClosedNames F d H names (e ∷ es) (b ∷ bs) (n.0 ∷ ns)
 
 -- The names of a group are generalised over all variables but those of the environment and those that are held: after closing, in the frame around it, the names of before
@@ -105,7 +105,7 @@ module _ {D : Declared} {F : Frame} {scope : Scope} {asks : Asks} {a b c d : Sig
   names_fit named M V ch own loose g s (one_closed n is (k, e) typed more) =
       let t = typed V ch loose g in
       let f = subst (λ x. SchemeFits d.nodes V n.0 (generalised_in (scope.env ch) (types ch) x)) (sym t.0) (scheme_fits named M V ch own loose g s k n.0 e t.1) in
-      name_more n is.named is.kind is.is f f.free (names_fit named M V ch own loose g s more)
+      name_more n is.named is.kind is.placed is.is f f.free (names_fit named M V ch own loose g s more)
 
   names_read : HoldsWritten scope d → (M V : Types) (ch : Choice) → HoldsUnbound F scope d ch → IsOwn d.nodes M → IsReading d.nodes V → Agrees F.owner d H V ch → Stands SchemeReads (D.declaration d.nodes rest.at.roots rest.at.names) (D.exception d.nodes rest.at.roots rest.at.names) d.nodes M rest.at.roots V env (scope.env ch) → {es : List Entry} {bs : List Bound} {ns : List ℕ} →
       ClosedNames F d H names es bs ns → NamesStand SchemeReads d.nodes M V (generalised_in (scope.env ch) (types ch)) (context_of ch) es bs ns
@@ -114,7 +114,7 @@ module _ {D : Declared} {F : Frame} {scope : Scope} {asks : Asks} {a b c d : Sig
       let loose = fits_loosely d.nodes V reads.fits in
       let t = typed V ch loose g in
       let f = subst (λ x. SchemeReads d.nodes V n.0 (generalised_in (scope.env ch) (types ch) x)) (sym t.0) (scheme_reads named M V ch unbound own reads g s k n.0 e t.1) in
-      name_more n is.named is.kind is.is f f.free (names_read named M V ch unbound own reads g s more)
+      name_more n is.named is.kind is.placed is.is f f.free (names_read named M V ch unbound own reads g s more)
 
   -- a closed name is a root: its variables above the level are bound
   name_root : (n : ℕ) → IsIn names n → IsRoot F d n
@@ -156,7 +156,7 @@ module _ {D : Declared} {F : Frame} {scope : Scope} {asks : Asks} {a b c d : Sig
   joined_covers no_closed C inside covers = covers
   joined_covers {E} {X} (one_closed {e = e} {b = b} n is i typed more) C inside (fs, h) = joined_covers more (n.0 ∷ C) (e ∷ inside) (
     entry b.name (rules.in_text b.place) (a_value (monomorphic (b.has_type (context_of no_choice)))) ∷ fs,
-    newest (entry_as is.named (sym is.kind) (of_value is.is (zero, refl)))
+    newest (entry_as is.named (sym is.kind) is.placed (of_value is.is (zero, refl)))
         (env_map (λ r sc. IsIn C r) (λ r sc. IsIn (n.0 ∷ C) r) E E X X (λ r sc k. more_in C n.0 r k) (λ x f k. k) (λ x o k. k) h),
   )
 

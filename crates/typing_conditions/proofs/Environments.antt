@@ -40,7 +40,7 @@ module _ (R S : ℕ → Scheme → Type 0) (D D' : Declaration → rules.Declara
     what_map (of_module_type e h) = of_module_type e (template_map h)
 
     entry_map : {e : Entry} {f : Named} → EntryAs R D X e f → EntryAs S D' X' e f
-    entry_map (entry_as n k w) = entry_as n k (what_map w)
+    entry_map (entry_as n k p w) = entry_as n k p (what_map w)
 
     pub env_map : {es : List Entry} {fs : Environment} → EnvAs R D X es fs → EnvAs S D' X' es fs
     env_map no_names = no_names
@@ -57,7 +57,7 @@ module _ (R S : ℕ → Scheme → Type 0) (D D' : Declaration → rules.Declara
 module _ (R : ℕ → Scheme → Type 0) (D : Declaration → rules.Declaration → Type 0) (X : Constructor → Option Typ → Type 0) where
   -- an entry has the same name and kind
   named_alike : (k : Kind) (n : Name) {e : Entry} {f : Named} → EntryAs R D X e f → is_named k n e ≡ lookups.is_named k n f
-  named_alike k n (entry_as {e = e} {f = f} name kind w) = (let p = sym kind in let q = sym name in (λ i. same_kind k (p i) && bytes_eq n (q i)))
+  named_alike k n (entry_as {e = e} {f = f} name kind at w) = (let p = sym kind in let q = sym name in (λ i. same_kind k (p i) && bytes_eq n (q i)))
 
   -- what an optional entry stands for
   pub data FoundAs : Option Entry → Option Named → Type 0 where
@@ -114,7 +114,7 @@ module _ (R : ℕ → Scheme → Type 0) (D : Declaration → rules.Declaration 
 
   -- the scopes inside two entries are alike
   pub inside_alike : {e : Entry} {f : Named} → EntryAs R D X e f → ScopeAs (inside e) (lookups.inside f)
-  inside_alike (entry_as n k w) = what_inside w
+  inside_alike (entry_as n k p w) = what_inside w
 
   -- the scopes after a path, for all names from which it may start
   abbrev Onward : List Name → Type 0
@@ -207,7 +207,7 @@ module _ (R : ℕ → Scheme → Type 0) (D : Declaration → rules.Declaration 
       what_free (of_module_type e h) t = absurd (no_yes t)
 
       entry_free : {e : Entry} {f : Named} → EntryAs R D X e f → free_in_referent w f.stands_for ≡ true → P
-      entry_free (entry_as n k h) t = what_free h t
+      entry_free (entry_as n k p h) t = what_free h t
 
       -- what follows from being free in a scheme follows from being free in the environment
       pub env_free : {es : List Entry} {fs : Environment} → EnvAs R D X es fs → free_in w fs ≡ true → P

@@ -94,7 +94,7 @@ module _ (R : ℕ → Scheme → Type 0) (nodes : List Node) (C : List ℕ) (N :
     pub makes : MakesAs nodes C N arity constructor building.result building.argument
 
   entry_constructor : {e : Entry} {f : Named} → EntryAs R (DeclaredAs nodes C N) (ExceptionAs nodes C N) e f → kind_of e.kind ≡ constructor_kind → FindsConstructor e (an_entry f)
-  entry_constructor (entry_as n k w) is = let h = what_constructor w (k ∙ is) in record { constructor = h.constructor; here = h.here; arity = h.arity; building = h.building; is = h.is; makes = h.makes }
+  entry_constructor (entry_as n k p w) is = let h = what_constructor w (k ∙ is) in record { constructor = h.constructor; here = h.here; arity = h.arity; building = h.building; is = h.is; makes = h.makes }
 
   found_constructor : {x : FoundAmong Entry} {y : FoundAmong Named} (e : Entry) → x ≡ an_entry e → kind_of e.kind ≡ constructor_kind → ComesTo R (DeclaredAs nodes C N) (ExceptionAs nodes C N) x y → FindsConstructor e y
   found_constructor e f is (to_entry {e = d} {f = g} h) = let s : d ≡ e = cc in subst (λ z. FindsConstructor z (an_entry g)) s (entry_constructor h (ap (λ (z : Entry). kind_of z.kind) s ∙ is))
@@ -136,7 +136,7 @@ module _ (R : ℕ → Scheme → Type 0) (nodes : List Node) (C : List ℕ) (N :
     pub alike : LabelAs nodes C N owner.arity (type_of owner) label named
 
   entry_label : {e : Entry} {f : Named} → EntryAs R (DeclaredAs nodes C N) (ExceptionAs nodes C N) e f → kind_of e.kind ≡ label_kind → FindsLabel e (an_entry f)
-  entry_label (entry_as n k w) is = let h = what_label w (k ∙ is) in record { label = h.label; here = h.here; owner = h.owner; named = h.named; is = h.is; alike = h.alike }
+  entry_label (entry_as n k p w) is = let h = what_label w (k ∙ is) in record { label = h.label; here = h.here; owner = h.owner; named = h.named; is = h.is; alike = h.alike }
 
   found_label : {x : FoundAmong Entry} {y : FoundAmong Named} (e : Entry) → x ≡ an_entry e → kind_of e.kind ≡ label_kind → ComesTo R (DeclaredAs nodes C N) (ExceptionAs nodes C N) x y → FindsLabel e y
   found_label e f is (to_entry {e = d} {f = g} h) = let s : d ≡ e = cc in subst (λ z. FindsLabel z (an_entry g)) s (entry_label h (ap (λ (z : Entry). kind_of z.kind) s ∙ is))

@@ -79,7 +79,7 @@ module _ (R : ℕ → Scheme → Type 0) (D : Declaration → rules.Declaration 
   what_scheme {w} is (of_module_type {t = t} e h) = absurd (other_root w (what.ModuleType t) is e (template_none t))
 
   entry_scheme : {e : Entry} {f : Named} → e.what ≡ what.Scheme root → EntryAs R D X e f → HasScheme f.stands_for
-  entry_scheme is (entry_as n k w) = what_scheme is w
+  entry_scheme is (entry_as n k p w) = what_scheme is w
 
   -- and what a path finds
   pub record FindsScheme (found : FoundAmong Named) : Type 0 where

@@ -26,7 +26,7 @@ use Rattle.env_table.specs.declared.entries.Entry.{Entry}
 use Rattle.env_table.specs.Views.{kind_of}
 use Rattle.typing_conditions.specs.Locals.{IsFreeVar, IsOwn, stands_in_any, Refines}
 use Rattle.typing_conditions.specs.Assumptions.{FreeAlike, SchemeFits, SchemeReads}
-use Rattle.typing_conditions.specs.Environments.{of_value, entry_as, newest}
+use Rattle.typing_conditions.specs.Environments.{defined_at, of_value, entry_as, newest}
 use Rattle.typing_conditions.specs.Standing.{IsIn, Stands}
 use Rattle.typing_conditions.proofs.Regions.{any_in, in_any}
 use Rattle.typing_conditions.proofs.Steps.{same_node, stands_after, stands_before}
@@ -78,10 +78,10 @@ more_in C n r (k, e) = (suc k, e)
 
 -- an entry of a name that stands for a scheme
 pub stands_named : (R : List Node → Types → ℕ → Scheme → Type 0) (D : Declaration → rules.Declaration → Type 0) (X : Constructor → Option Typ → Type 0) (nodes : List Node) (J V : Types) (C : List ℕ) (env : List Entry) (E : Environment) →
-    IsOwn nodes J → (e : Entry) (x : Name) (at : rules.Place) (n : NodeRef) (sc : Scheme) → x ≡ str_bytes e.name → kind_of e.kind ≡ value_kind → e.what ≡ what.Scheme n →
+    IsOwn nodes J → (e : Entry) (x : Name) (at : rules.Place) (n : NodeRef) (sc : Scheme) → x ≡ str_bytes e.name → kind_of e.kind ≡ value_kind → defined_at e.place ≡ at → e.what ≡ what.Scheme n →
     R nodes V n.0 sc → FreeAlike nodes V n.0 sc → Stands R D X nodes J C V env E → Stands R D X nodes J (n.0 ∷ C) V (e ∷ env) (entry x at (a_value sc) ∷ E)
-stands_named R D X nodes J V C env E own e x at n sc named kind is r frees s = record {
-  names = newest (entry_as named (sym kind) (of_value is (r, (zero, refl))))
+stands_named R D X nodes J V C env E own e x at n sc named kind placed is r frees s = record {
+  names = newest (entry_as named (sym kind) placed (of_value is (r, (zero, refl))))
       (env_map (λ r sc. R nodes V r sc × IsIn C r) (λ r sc. R nodes V r sc × IsIn (n.0 ∷ C) r) D D X X (λ r sc h. (h.0, more_in C n.0 r h.1)) (λ d e h. h) (λ c o h. h) s.names);
   brings = λ u w free h o. elim (or_cases (occurs u (J n.0)) (stands_in_any J C u) h) [
     | inr i ↦ or_right (free_in_scheme w sc) (free_in w E) (s.brings u w free i o)

@@ -112,7 +112,7 @@ surrounds_sees {a = a} at V ch reads g named unbound =
     record { nodes = a.nodes; reads = reads; roots = at.roots; names = at.names; are = stand.names }
 
 -- A part is typed among one name more: its type is that of an open node, in which no unknown type stands.
-pub surrounds_named : {D : Declared} {F : Frame} {a : Sight} {G : Letters} {env : List Entry} {scope : Scope} {type : Choice → Typ} {e : Entry} {x : Name} {n : NodeRef} (place : rules.Place) → IsEntry e x n → Means F a G type n.0 →
+pub surrounds_named : {D : Declared} {F : Frame} {a : Sight} {G : Letters} {env : List Entry} {scope : Scope} {type : Choice → Typ} {e : Entry} {x : Name} {n : NodeRef} (place : rules.Place) → IsEntry e x place n → Means F a G type n.0 →
     ((V : Types) (ch : Choice) → Loose a.nodes V → Agrees F.owner a G V ch → IsKnown (V n.0)) → Surrounds D F a G env scope → Surrounds D F a G (e ∷ env) (with_one x place type scope)
 surrounds_named {D} {F} {a} {G} {env} {scope} {type} {e} {x} {n} place is p known at = record {
   reached = at.reached;
@@ -134,11 +134,11 @@ surrounds_named {D} {F} {a} {G} {env} {scope} {type} {e} {x} {n} place is p know
       let loose = fits_loosely a.nodes V reads.fits in
       let scheme = one_type_reads a.nodes J V n.0 own reads p.open_node.inside (known V ch loose g) (λ v o. free J own v o) in
       subst (λ t. Stands SchemeReads (D.declaration a.nodes (n.0 ∷ at.roots) at.names) (D.exception a.nodes (n.0 ∷ at.roots) at.names) a.nodes J (n.0 ∷ at.roots) V (e ∷ env) (entry x place (a_value (monomorphic t)) ∷ scope.env ch)) (sym (p.is V ch loose g))
-      (stands_declared (declared J own) (excepted J own) (stands_named SchemeReads (D.declaration a.nodes at.roots at.names) (D.exception a.nodes at.roots at.names) a.nodes J V at.roots env (scope.env ch) own e x place n (monomorphic (V n.0)) is.named is.kind is.is scheme scheme.free (at.reads J V ch own reads g named unbound)));
+      (stands_declared (declared J own) (excepted J own) (stands_named SchemeReads (D.declaration a.nodes at.roots at.names) (D.exception a.nodes at.roots at.names) a.nodes J V at.roots env (scope.env ch) own e x place n (monomorphic (V n.0)) is.named is.kind is.placed is.is scheme scheme.free (at.reads J V ch own reads g named unbound)));
   fits = λ J V ch own loose g named.
       let scheme = one_type_fits a.nodes J V n.0 own loose p.open_node.inside (known V ch loose g) in
       subst (λ t. Stands SchemeFits (D.declaration a.nodes (n.0 ∷ at.roots) at.names) (D.exception a.nodes (n.0 ∷ at.roots) at.names) a.nodes J (n.0 ∷ at.roots) V (e ∷ env) (entry x place (a_value (monomorphic t)) ∷ scope.env ch)) (sym (p.is V ch loose g))
-      (stands_declared (declared J own) (excepted J own) (stands_named SchemeFits (D.declaration a.nodes at.roots at.names) (D.exception a.nodes at.roots at.names) a.nodes J V at.roots env (scope.env ch) own e x place n (monomorphic (V n.0)) is.named is.kind is.is scheme scheme.free (at.fits J V ch own loose g named)));
+      (stands_declared (declared J own) (excepted J own) (stands_named SchemeFits (D.declaration a.nodes at.roots at.names) (D.exception a.nodes at.roots at.names) a.nodes J V at.roots env (scope.env ch) own e x place n (monomorphic (V n.0)) is.named is.kind is.placed is.is scheme scheme.free (at.fits J V ch own loose g named)));
 }
   where
     declared : (J : Types) → IsOwn a.nodes J → (d : Declaration) (f : rules.Declaration) → D.declaration a.nodes at.roots at.names d f → D.declaration a.nodes (n.0 ∷ at.roots) at.names d f
@@ -154,7 +154,7 @@ surrounds_named {D} {F} {a} {G} {env} {scope} {type} {e} {x} {n} place is p know
     one_more : {P P' : Declaration → rules.Declaration → Type 0} {Q Q' : Constructor → Option Typ → Type 0} → ((d : Declaration) (f : rules.Declaration) → P d f → P' d f) → ((c : Constructor) (o : Option Typ) → Q c o → Q' c o) → Covers P Q at.roots env → Covers P' Q' (n.0 ∷ at.roots) (e ∷ env)
     one_more {P} {P'} {Q} {Q'} more also (E, h) = (
       entry x place (a_value (monomorphic (type no_types))) ∷ E,
-      newest (entry_as is.named (sym is.kind) (of_value is.is (zero, refl))) (env_map (λ r sc. IsIn at.roots r) (λ r sc. IsIn (n.0 ∷ at.roots) r) P P' Q Q' (λ r sc k. more_in at.roots n.0 r k) more also h),
+      newest (entry_as is.named (sym is.kind) is.placed (of_value is.is (zero, refl))) (env_map (λ r sc. IsIn at.roots r) (λ r sc. IsIn (n.0 ∷ at.roots) r) P P' Q Q' (λ r sc k. more_in at.roots n.0 r k) more also h),
     )
 
     free : (J : Types) → IsOwn a.nodes J → (v : ℕ) → occurs v (J n.0) ≡ true → IsFreeVar a.nodes v

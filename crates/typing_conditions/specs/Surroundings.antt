@@ -17,6 +17,7 @@ use Rattle.env_table.specs.declared.entries.What.TheVariants as what
 use Rattle.env_table.specs.Views.{kind_of}
 use Rattle.typing_conditions.specs.Locals.{IsOwn, Refines}
 use Rattle.typing_conditions.specs.Assumptions.{SchemeFits, SchemeReads}
+use Rattle.typing_conditions.specs.Environments.{defined_at}
 use Rattle.typing_conditions.specs.Standing.{IsIn, Covers, Stands}
 use Rattle.typing_conditions.specs.Declared.{UnknownApart, NoneUnknown, DeclaredAs, ExceptionAs}
 use Rattle.typing_conditions.specs.Sights.{Sight, Letters, Agrees}
@@ -71,10 +72,11 @@ pub record Surrounds (D : Declared) (F : Frame) (a : Sight) (G : Letters) (env :
 abbrev pub with_one : Name → rules.Place → (Choice → Typ) → Scope → Scope
 with_one x at type scope = record scope { env = λ ch. entry x at (a_value (monomorphic (type ch))) ∷ scope.env ch }
 
--- the code's entry of such a name
-pub record IsEntry (e : Entry) (x : Name) (n : NodeRef) : Type 0 where
+-- the code's entry of such a name, which is defined at this place
+pub record IsEntry (e : Entry) (x : Name) (at : rules.Place) (n : NodeRef) : Type 0 where
   pub named : x ≡ str_bytes e.name
   pub kind : kind_of e.kind ≡ value_kind
+  pub placed : defined_at e.place ≡ at
   pub is : e.what ≡ what.Scheme n
 
 -- a context that has only what is chosen, for the types of names

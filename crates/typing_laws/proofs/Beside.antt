@@ -16,7 +16,7 @@ use Rattle.typing_model.specs.Patterns.{bound_at, all_names, pname, papp, pparen
 use Rattle.typing_model.specs.Bindings.{generalises}
 use Rattle.typing_model.specs.Expressions.{all_values, path_expression, is_built_value, is_some, labels_of, first_field, all_field_values, none_mutable, is_constant_record, cases_are_values, all_generalise, cases_in, fields_in, bindings_in, update_expression, record_expression, parenthesised, begun, if_expression, expression_row}
 use Rattle.typing_model.specs.Meanings.{binding_of, case_of, field_of, field_pattern_of, node_child, leaf_child, children_of, child_of, tree_child}
-use Rattle.typing_laws.specs.Renaming.{renaming, at_node, at_letter, AreRenamedChoices, IsOf}
+use Rattle.typing_laws.specs.Renaming.{renaming, at_node, AreRenamedChoices, IsOf}
 use Rattle.typing_laws.proofs.Steady.{Each, no_one, one_and, each_append, IfThere, absent, there}
 use Rattle.typing_laws.proofs.SteadyRows.{mapped, filtered, first_there}
 use Rattle.typing_laws.proofs.Labelled.{EntriesAlike, constant_found, records_alike}
@@ -72,8 +72,8 @@ punned_renamed {choice} {other} r n p = by p.pattern refl p.label.last refl
     by (Some q) e l g = rw (e, punned) no_one
     by None e None g = rw (e, g, punned) no_one
     by None e (Some t) g = rw (e, g, punned) (one_and (record {
-      gives = λ c d i j. ap (λ x. x.letter p.node 0) j ∙ r.letters p.node 0 ∙ ap (λ x. apply (renaming r.forth) (x.letter p.node 0)) (sym i);
-      chosen = λ c i v o. at_letter p.node 0 (subst (λ x. occurs v (x.letter p.node 0) ≡ true) i o);
+      gives = λ c d i j. ap (λ x. x.type_at p.node) j ∙ r.nodes p.node ∙ ap (λ x. apply (renaming r.forth) (x.type_at p.node)) (sym i);
+      chosen = λ c i v o. at_node p.node (subst (λ x. occurs v (x.type_at p.node) ≡ true) i o);
     }) no_one)
 
 field_renamed : {choice other : Choice} (r : AreRenamedChoices choice other) (n : ℕ) (p : FieldPattern) → RenamedField choice other r.forth p → Each (RenamedName choice other r.forth) (names_in_field n p)

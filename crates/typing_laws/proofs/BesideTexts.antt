@@ -69,7 +69,7 @@ pairs_in_front E F (a_pair {e = e} {f = g} {xs = xs} {ys = ys} p ps) h =
     }
 
 -- a renamed type is of the same origin
-origin_renamed : (f : ℕ → ℕ) (t : Typ) → origin_of (apply (renaming f) t) ≡ origin_of t
+pub origin_renamed : (f : ℕ → ℕ) (t : Typ) → origin_of (apply (renaming f) t) ≡ origin_of t
 origin_renamed f (Var v) = refl
 origin_renamed f (Arrow a b) = refl
 origin_renamed f (Tuple ts) = refl

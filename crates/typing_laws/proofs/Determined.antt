@@ -34,6 +34,8 @@ use Rattle.typing_laws.proofs.Steady.{Each, no_one, one_and, each_append, IfTher
 use Rattle.typing_laws.proofs.SteadyRows.{mapped, filtered, first_there, then_there}
 use Rattle.typing_laws.proofs.SteadyDeclarations.{component_behind}
 use Rattle.typing_laws.proofs.SteadyItems.{pair_alike}
+use Rattle.typing_laws.proofs.Slots.{slot_is, none_there}
+use Rattle.typing_laws.specs.Reexports.{has_slot}
 
 -- conditions in front and behind
 pub hold_left : (k : Kept) (xs ys : List Condition) → AllHold k (xs ++ ys) → AllHold k xs
@@ -451,10 +453,6 @@ ysig_determined k a b n xs each = record {
 }
 
 -- trees in which no declaration is another name for a type, without `with` and functors
-abbrev has_slot : ℕ → Forest → Bool
-has_slot s no_parts = false
-has_slot s (part slot p ps) = if slot == s then true else has_slot s ps
-
 abbrev is_simple_row : Row → Forest → Bool
 is_simple_row alias_row ps = false
 is_simple_row ywith_row ps = false
@@ -475,22 +473,6 @@ abbrev mutual
   is_simple_part (taken t) = true
   is_simple_part (inner t) = is_simple t
   is_simple_part (missing p) = true
-
-slot_is : (n slot : ℕ) (p : Part) → (child_of n slot p).slot ≡ slot
-slot_is n slot (taken t) = refl
-slot_is n slot (inner (node r x ps)) = refl
-slot_is n slot (missing p) = refl
-
-none_there : (s n : ℕ) (r : Row) (ps : Forest) → has_slot s ps ≡ false → in_slot s (children_of n r ps) ≡ []
-none_there s n r no_parts e = refl
-none_there s n r (part slot p ps) e = by (slot == s) refl (λ h. none_there s (n + part_size r slot p) r ps h)
-  where
-    test : (b : Bool) → (slot == s) ≡ b → ((child_of n slot p).slot == s) ≡ b
-    test b f = ap (λ x. x == s) (slot_is n slot p) ∙ f
-
-    by : (b : Bool) → (slot == s) ≡ b → (has_slot s ps ≡ false → in_slot s (children_of (n + part_size r slot p) r ps) ≡ []) → in_slot s (child_of n slot p ∷ children_of (n + part_size r slot p) r ps) ≡ []
-    by true f further = absurd (no_yes (sym e ∙ ap (λ b. if b then true else has_slot s ps) f))
-    by false f further = ap (λ b. if b then child_of n slot p ∷ in_slot s (children_of (n + part_size r slot p) r ps) else in_slot s (children_of (n + part_size r slot p) r ps)) (test false f) ∙ further (sym (ap (λ b. if b then true else has_slot s ps) f) ∙ e)
 
 some_there : (s n : ℕ) (r : Row) (ps : Forest) → has_slot s ps ≡ true → is_empty (types_in s (children_of n r ps)) ≡ false
 some_there s n r no_parts e = absurd (no_yes e)

@@ -19,6 +19,9 @@ pub mod SteadyItems
 pub mod SteadyModules
 pub mod SteadyRows
 pub mod SteadyTexts
+pub mod Slots
+pub mod Reexports
+pub mod WholeDeclarations
 pub mod WholeTexts
 pub mod Settled
 pub mod Decided

@@ -289,7 +289,7 @@ pun_quiet c f seen t = by f.label.last refl
   where
     by : (o : Option Tok) → f.label.last ≡ o → Quiet (match_pun c f seen t)
     by None e = rw (e, match_pun) silence
-    by (Some x) e = rw (e, match_pun) (q_demand refl (q_known (same_if (letter c f.node 0) t)))
+    by (Some x) e = rw (e, match_pun) (q_demand refl (q_known (same_if (type_at c f.node) t)))
 
 field_quiet : (c : Context) (n : ℕ) (is_found : Bool) (f : FieldPattern) (names seen : List Name) (t : Option Typ) → QuietFieldPattern f → Quiet (match_field c n is_found f names seen t)
 field_quiet c n is_found f names seen t s = by f.pattern refl s.pattern
@@ -300,7 +300,7 @@ field_quiet c n is_found f names seen t s = by f.pattern refl s.pattern
 
 fields_quiet : (c : Context) (n : ℕ) (found : Option Declaration) (fs : List FieldPattern) (names seen : List Name) → Each QuietFieldPattern fs → Quiet (match_fields c n found fs names seen)
 fields_quiet c n found [] names seen no_one = silence
-fields_quiet c n found (f ∷ fs) names seen (one_and s each) = also (field_quiet c n _ f names seen (field_type c n found f.label) s) (fields_quiet c n found fs (names ++ name_in f.label) (seen ++ mentions_in_field f) each)
+fields_quiet c n found (f ∷ fs) names seen (one_and s each) = also (field_quiet c n _ f names seen (field_type c n f.node found f.label) s) (fields_quiet c n found fs (names ++ name_in f.label) (seen ++ mentions_in_field f) each)
 
 same_record : (c : Context) (n : ℕ) (o : Option Declaration) → Quiet (elim o [ None ↦ [] | Some d ↦ same (type_at c n) (used_at c n (type_of d)) ∷ [] ])
 same_record c n None = silence

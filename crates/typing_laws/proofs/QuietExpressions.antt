@@ -175,7 +175,7 @@ field_value_quiet c is_found f names t s = by f.value refl s.value
 
 fields_quiet : (c : Context) (n : ℕ) (found : Option Declaration) (fs : List Field) (names : List Name) → Each QuietField fs → Quiet (fields_ask c n found fs names)
 fields_quiet c n found [] names no_one = silence
-fields_quiet c n found (f ∷ fs) names (one_and s each) = also (field_value_quiet c (is_some found) f names (field_type c n found f.label) s) (fields_quiet c n found fs (names ++ name_in f.label) each)
+fields_quiet c n found (f ∷ fs) names (one_and s each) = also (field_value_quiet c (is_some found) f names (field_type c n f.node found f.label) s) (fields_quiet c n found fs (names ++ name_in f.label) each)
 
 is_record_quiet : (c : Context) (n : ℕ) (o : Option Declaration) → Quiet (is_record c n o)
 is_record_quiet c n None = silence

@@ -1,8 +1,8 @@
--- In a text of `let`, exceptions and `;;` what is asked up to a demand depends only on what is kept before it.
+-- In a text without modules and re-exports what is asked up to a demand depends only on what is kept before it.
 use Rattle.std.proofs.Common.{◌≡◌, Bool, true, false, ◌==◌, List, [], ◌∷◌, refl, sym, ap}
 use Rattle.type_model.proofs.Applying.{or_left, or_right, eqb_same}
-use Rattle.tree_model.specs.Trees.{Tree, node}
-use Rattle.tree_model.specs.Rows.{Row, let_row, exception_row, break_row}
+use Rattle.tree_model.specs.Trees.{Tree, Forest, node}
+use Rattle.tree_model.specs.Rows.{Row, let_row, type_row, exception_row, break_row}
 use Rattle.signature_model.specs.Entries.{Environment}
 use Rattle.typing_model.specs.Demands.{Site, same_site, Condition, same, instance, made, known, demand, treated, sites_of}
 use Rattle.typing_model.specs.Contexts.{Choice}
@@ -12,6 +12,7 @@ use Rattle.typing_laws.proofs.Bools.{no_yes, and_cases, and_both}
 use Rattle.typing_laws.proofs.Together.{Kept}
 use Rattle.typing_laws.proofs.Whole.{Whole, at_end, at_demand, at_same, at_instance, at_made, at_known, at_treated}
 use Rattle.typing_laws.proofs.WholeTexts.{text_whole}
+use Rattle.typing_laws.specs.Reexports.{is_new_item, has_new_types}
 
 same_as_itself : (s : Site) → same_site s s ≡ true
 same_as_itself s = and_both (s.node == s.node) (s.number == s.number) (eqb_same s.node) (eqb_same s.number)
@@ -34,9 +35,24 @@ up_to_one {k} {m} s (at_demand {s = t} {p = p} {d = d} {cs = cs} {ds = ds} g) be
         rw (h, conditions_up_to) (ap (λ xs. demand t p d ∷ xs) rest)
 
 -- so it is in such a text
+pub new_settled : (env : Environment) (text : List Tree) (kept others : Site → Bool) (choice : Choice) (s : Site) → has_new_types text ≡ true →
+    ((x : Site) → is_site_among x (sites_before s (sites_of (conditions_of env text kept choice))) ≡ true → others x ≡ kept x) → conditions_up_to s (conditions_of env text others choice) ≡ conditions_up_to s (conditions_of env text kept choice)
+new_settled env text kept others choice s new before = up_to_one s (text_whole {k = kept} {m = others} env text choice new) before
+
+-- a text of `let`, exceptions and `;;` declares no types
+row_new : (r : Row) (ps : Forest) → is_value_row r ≡ true → is_new_item r ps ≡ true
+row_new let_row ps e = refl
+row_new exception_row ps e = refl
+row_new break_row ps e = refl
+row_new _ ps e = absurd (no_yes e)
+
+pub values_new : (text : List Tree) → has_values_alone text ≡ true → has_new_types text ≡ true
+values_new [] e = refl
+values_new (node r x ps ∷ ts) e = let (first, others) = and_cases (is_value_row r) (has_values_alone ts) e in and_both (is_new_item r ps) (has_new_types ts) (row_new r ps first) (values_new ts others)
+
 pub values_settled : (env : Environment) (text : List Tree) (kept others : Site → Bool) (choice : Choice) (s : Site) → has_values_alone text ≡ true →
     ((x : Site) → is_site_among x (sites_before s (sites_of (conditions_of env text kept choice))) ≡ true → others x ≡ kept x) → conditions_up_to s (conditions_of env text others choice) ≡ conditions_up_to s (conditions_of env text kept choice)
-values_settled env text kept others choice s values before = up_to_one s (text_whole {k = kept} {m = others} env text choice values) before
+values_settled env text kept others choice s values before = new_settled env text kept others choice s (values_new text values) before
 
 -- a text of `let` and `;;` is one of `let`, exceptions and `;;`
 row_value : (r : Row) → is_let_row r ≡ true → is_value_row r ≡ true
@@ -58,6 +74,18 @@ row_plain let_row e = refl
 row_plain exception_row e = refl
 row_plain break_row e = refl
 row_plain _ e = absurd (no_yes e)
+
+-- nor are declarations of types
+new_plain_row : (r : Row) (ps : Forest) → is_new_item r ps ≡ true → is_plain_row r ≡ true
+new_plain_row let_row ps e = refl
+new_plain_row type_row ps e = refl
+new_plain_row exception_row ps e = refl
+new_plain_row break_row ps e = refl
+new_plain_row _ ps e = absurd (no_yes e)
+
+pub new_plain : (text : List Tree) → has_new_types text ≡ true → has_no_modules text ≡ true
+new_plain [] e = refl
+new_plain (node r x ps ∷ ts) e = let (first, others) = and_cases (is_new_item r ps) (has_new_types ts) e in and_both (is_plain_row r) (has_no_modules ts) (new_plain_row r ps first) (new_plain ts others)
 
 pub values_plain : (text : List Tree) → has_values_alone text ≡ true → has_no_modules text ≡ true
 values_plain [] e = refl

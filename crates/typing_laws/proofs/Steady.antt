@@ -92,13 +92,14 @@ pub record SteadyConstructor (k m : Kept) (a : ConstructorPart) : Type 0 where
 
 pub record SteadyLabel (k m : Kept) (l : LabelPart) : Type 0 where
   pub body : SteadyType k m l.body
+  pub whole_body : WholeType k m l.body
 
 pub data SteadyTold (k m : Kept) : Told → Type 0 where
   of_constructors : {ks : List ConstructorPart} → Each (SteadyConstructor k m) ks → SteadyTold k m (constructors ks)
   of_labels : {ls : List LabelPart} → Each (SteadyLabel k m) ls → SteadyTold k m (labels ls)
 
 pub data SteadyRight (k m : Kept) : RightSide → Type 0 where
-  of_another : {n : ℕ} {t : TypeExpression} {l : Option Tok} {told : Option Told} → SteadyType k m t → IfThere (SteadyTold k m) told → SteadyRight k m (another n t l told)
+  of_another : {n : ℕ} {t : TypeExpression} {l : Option Tok} {told : Option Told} → SteadyType k m t → WholeType k m t → IfThere (SteadyTold k m) told → SteadyRight k m (another n t l told)
   of_own : {r : Told} → SteadyTold k m r → SteadyRight k m (own r)
 
 pub record SteadyDeclaration (k m : Kept) (d : DeclarationPart) : Type 0 where

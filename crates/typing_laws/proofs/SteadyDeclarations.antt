@@ -88,7 +88,7 @@ told_alike c d all x arity n t l (Some r) =
 right_alike : {k m : Kept} (c : Context) (E F : Environment) (all : List DeclarationPart) (x : Option Tok) (arity : ℕ) (r : Option RightSide) → TypesAlike E F → IfThere (SteadyRight k m) r →
     Together k m (right_asks (under E (keeping k c)) all x arity r) (right_asks (under F (keeping m c)) all x arity r)
 right_alike c E F all x arity None h absent = at_end
-right_alike {k} {m} c E F all x arity (Some (another n t l r)) h (there (of_another s z)) =
+right_alike {k} {m} c E F all x arity (Some (another n t l r)) h (there (of_another s w z)) =
     at_treated (behind (behind (s.reads c E F h) (λ a. shape_alike c E F r h z)) (λ a. told_alike (under E (keeping k c)) (under F (keeping m c)) all x arity n t l r))
 right_alike c E F all x arity (Some (own r)) h (there (of_own s)) = shape_alike c E F (Some r) h (there s)
 

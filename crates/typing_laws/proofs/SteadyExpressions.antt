@@ -288,7 +288,7 @@ fields_alike : {k m : Kept} (c : Context) (n : ℕ) (found : Option Declaration)
     Whole k m (fields_ask (keeping k c) n found fs names) (fields_ask (keeping m c) n found fs names)
 fields_alike c n found [] names no_one = at_end
 fields_alike {k} {m} c n found (f ∷ fs) names (one_and s each) =
-    behind (field_value_alike c (is_some found) f names (field_type (keeping k c) n found f.label) s) (λ a. fields_alike c n found fs (names ++ name_in f.label) each)
+    behind (field_value_alike c (is_some found) f names (field_type (keeping k c) n f.node found f.label) s) (λ a. fields_alike c n found fs (names ++ name_in f.label) each)
 
 record_alike : {k m : Kept} (c : Context) (n : ℕ) (q : Place) (fs : List Field) (xs ys us vs : List Condition) → Each (SteadyField k m) fs → Whole k m xs ys → Whole k m us vs →
     Whole k m (record_asks (keeping k c) n q xs us fs) (record_asks (keeping m c) n q ys vs fs)

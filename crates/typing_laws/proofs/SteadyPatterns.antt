@@ -234,7 +234,7 @@ fields_alike : {k m : Kept} (c : Context) (n : ℕ) (found : Option Declaration)
     Whole k m (match_fields (keeping k c) n found fs names seen) (match_fields (keeping m c) n found fs names seen)
 fields_alike c n found [] names seen no_one = at_end
 fields_alike {k} {m} c n found (f ∷ fs) names seen (one_and s each) =
-    behind (field_alike c n _ f names seen (field_type (keeping k c) n found f.label) s) (λ a. fields_alike c n found fs (names ++ name_in f.label) (seen ++ mentions_in_field f) each)
+    behind (field_alike c n _ f names seen (field_type (keeping k c) n f.node found f.label) s) (λ a. fields_alike c n found fs (names ++ name_in f.label) (seen ++ mentions_in_field f) each)
 
 -- the names of fields
 abbrev names_of_fields : ℕ → List FieldPattern → List Bound

@@ -213,7 +213,7 @@ own_steady None absent = absent
 own_steady (Some r) (there s) = there (of_own s)
 
 pub right_side_steady : {k m : Kept} (r : Row) (n : ℕ) (cs : List Child) → Each (SteadyChild k m) cs → IfThere (SteadyRight k m) (right_side_row r n cs)
-right_side_steady {k} {m} alias_row n cs h = there (of_another (one_type_steady 0 cs h) (then_there (SteadyTold k m) (first_of (in_slot 2 cs)) (λ c. c.told) (λ c g. g.told) (first_steady 2 cs h)))
+right_side_steady {k} {m} alias_row n cs h = there (of_another (one_type_steady 0 cs h) (one_type_whole 0 cs h) (then_there (SteadyTold k m) (first_of (in_slot 2 cs)) (λ c. c.told) (λ c g. g.told) (first_steady 2 cs h)))
 right_side_steady variant_row n cs h = own_steady (told_row variant_row cs) (told_row_steady variant_row cs h)
 right_side_steady record_row n cs h = own_steady (told_row record_row cs) (told_row_steady record_row cs h)
 right_side_steady _ n cs h = absent

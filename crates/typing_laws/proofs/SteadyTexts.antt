@@ -21,7 +21,7 @@ use Rattle.typing_laws.proofs.SteadyPatterns.{no_pattern_steady}
 use Rattle.typing_laws.proofs.SteadyExpressions.{no_expression_steady}
 use Rattle.typing_laws.proofs.SteadyItems.{items_alike}
 use Rattle.typing_laws.proofs.SteadyModules.{no_module_steady, no_module_type_steady}
-use Rattle.typing_laws.proofs.SteadyRows.{expressions_steady, patterns_steady, types_steady, types_whole, expression_steady, one_pattern_steady, one_type_steady, first_there, then_there, first_steady, expression_row_steady, pattern_row_steady, type_row_steady, type_row_whole, told_row_steady, right_side_steady, item_steady, signature_item_steady, module_row_steady, module_type_row_steady}
+use Rattle.typing_laws.proofs.SteadyRows.{expressions_steady, patterns_steady, types_steady, types_whole, expression_steady, one_pattern_steady, one_type_steady, one_type_whole, first_there, then_there, first_steady, expression_row_steady, pattern_row_steady, type_row_steady, type_row_whole, told_row_steady, right_side_steady, item_steady, signature_item_steady, module_row_steady, module_type_row_steady}
 
 -- a part that tells its environment first
 further_form : (k m : Kept) (typed after : Context → List Condition) (f : Form) → ((c : Context) → Agreed k m (after (keeping k c)) → Agreed k m (typed (keeping k c))) → IsFormSteady k m typed f → IsFormSteady k m after f
@@ -106,7 +106,7 @@ constructor_steady con_row n cs h = there (record { argument = first_there (type
 constructor_steady _ n cs h = absent
 
 label_steady : {k m : Kept} (r : Row) (n : ℕ) (cs : List Child) → Each (SteadyChild k m) cs → IfThere (SteadyLabel k m) (label_of r n cs)
-label_steady label_row n cs h = there (record { body = one_type_steady 3 cs h })
+label_steady label_row n cs h = there (record { body = one_type_steady 3 cs h; whole_body = one_type_whole 3 cs h })
 label_steady _ n cs h = absent
 
 declaration_steady : {k m : Kept} (r : Row) (n : ℕ) (cs : List Child) → Each (SteadyChild k m) cs → IfThere (SteadyDeclaration k m) (declaration_of r n cs)

@@ -283,7 +283,7 @@ is_some (Some a) = true
 abbrev pub fields_ask : Context → ℕ → Option Declaration → List Field → List Name → List Condition
 fields_ask c n found [] labels = []
 fields_ask c n found (f ∷ fs) labels =
-    field_value_asks c (is_some found) f labels (field_type c n found f.label) ++ fields_ask c n found fs (labels ++ name_in f.label)
+    field_value_asks c (is_some found) f labels (field_type c n f.node found f.label) ++ fields_ask c n found fs (labels ++ name_in f.label)
 
 -- the labels of fields
 abbrev pub labels_of : List Field → List Written

@@ -211,9 +211,9 @@ por n at first rest = record {
   constructor = None;
 }
 
--- the name that a field binds without a pattern of its own, with the type of the field
+-- the name that a field binds without a pattern of its own, with the type of the field's node
 abbrev pub punned : ℕ → FieldPattern → List Bound
-punned n f = elim f.pattern [ Some p ↦ [] | None ↦ elim f.label.last [ None ↦ [] | Some t ↦ record { name = t.name; place = place_of t; has_type = λ c. letter c f.node 0 } ∷ [] ] ]
+punned n f = elim f.pattern [ Some p ↦ [] | None ↦ elim f.label.last [ None ↦ [] | Some t ↦ record { name = t.name; place = place_of t; has_type = λ c. type_at c f.node } ∷ [] ] ]
 
 -- the names that a field binds
 abbrev pub names_in_field : ℕ → FieldPattern → List Bound
@@ -223,9 +223,9 @@ names_in_field n f = elim f.pattern [ None ↦ punned n f | Some p ↦ p.names ]
 abbrev pub mentions_in_field : FieldPattern → List Name
 mentions_in_field f = elim f.pattern [ None ↦ name_in f.label | Some p ↦ p.mentions ]
 
--- a punned field's name is new, and has the field's type
+-- a punned field's name is new, and its node has the field's type
 abbrev pub match_pun : Context → FieldPattern → List Name → Option Typ → List Condition
-match_pun c f seen t = elim f.label.last [ None ↦ [] | Some x ↦ ask_fresh f.node 1 seen x ++ known (letter c f.node 0) ∷ elim t [ None ↦ [] | Some t ↦ same (letter c f.node 0) t ∷ [] ] ]
+match_pun c f seen t = elim f.label.last [ None ↦ [] | Some x ↦ ask_fresh f.node 1 seen x ++ known (type_at c f.node) ∷ elim t [ None ↦ [] | Some t ↦ same (type_at c f.node) t ∷ [] ] ]
 
 -- a field: its label is new where the record is found, then its pattern, which has the field's type
 abbrev pub match_field : Context → ℕ → Bool → FieldPattern → List Name → List Name → Option Typ → List Condition
@@ -237,7 +237,7 @@ match_field c n is_found f labels seen t =
 abbrev pub match_fields : Context → ℕ → Option Declaration → List FieldPattern → List Name → List Name → List Condition
 match_fields c n found [] labels seen = []
 match_fields c n found (f ∷ fs) labels seen =
-    match_field c n (elim found [ None ↦ false | Some d ↦ true ]) f labels seen (field_type c n found f.label)
+    match_field c n (elim found [ None ↦ false | Some d ↦ true ]) f labels seen (field_type c n f.node found f.label)
     ++ match_fields c n found fs (labels ++ name_in f.label) (seen ++ mentions_in_field f)
 
 -- the labels of fields

@@ -1,18 +1,21 @@
 -- What a record asks, as an expression and as a pattern: that its type is found by its labels, and of each field (OCaml manual, 11.7.4 for records, and 11.6 for record patterns).
-use Rattle.std.specs.Prelude.{ℕ, Bool, false, ◌||◌, not, List, [], ◌∷◌, filter_map, Option, Some, None, option_map, if◌then◌else◌}
+use Rattle.std.specs.Prelude.{ℕ, suc, Bool, false, ◌||◌, not, List, [], ◌∷◌, filter_map, Option, Some, None, option_map, if◌then◌else◌}
 use Rattle.token_model.specs.Kinds.{Tok}
 use Rattle.tree_model.specs.Trees.{Place}
-use Rattle.type_model.specs.Types.{Typ}
-use Rattle.signature_model.specs.Declarations.{Name, Declaration, Label, Shape, Opaque, Variant, Labels}
+use Rattle.type_model.specs.Types.{Path, Typ, occurs}
+use Rattle.type_model.specs.Substitutions.{Subst}
+use Rattle.type_print_model.specs.Printing.{mentions}
+use Rattle.signature_model.specs.Declarations.{Name, Declaration, Label, Shape, Opaque, Variant, Labels, type_of}
 use Rattle.signature_model.specs.Components.{same_name}
+use Rattle.signature_model.specs.Matching.{used}
 use Rattle.signature_model.specs.Entries.{Environment}
 use Rattle.signature_model.specs.Lookups.{Found}
 use Rattle.signature_model.specs.Records as labels
 use Rattle.signature_model.specs.Records.{record_of, scope_for}
 use Rattle.typing_model.specs.Demands.{label_word, module_word, unbound, twice, incomplete, test, Condition}
-use Rattle.typing_model.specs.Contexts.{Context, ask}
+use Rattle.typing_model.specs.Contexts.{Choice, Context, ask}
 use Rattle.typing_model.specs.Parts.{Written, place_of, place_without_point}
-use Rattle.typing_model.specs.Names.{names_of, is_found, lost_behind, entry_of, label_in, then_by, used_at}
+use Rattle.typing_model.specs.Names.{names_of, is_found, lost_behind, entry_of, label_in, then_by}
 
 -- whether a name is one of a list
 abbrev pub is_among : Name → List Name → Bool
@@ -65,9 +68,22 @@ abbrev pub find_label : Name → List Label → Option Label
 find_label n [] = None
 find_label n (l ∷ ls) = if same_name n l.name then Some l else find_label n ls
 
--- the type of a written label of a record, as it is used at the node of the record
-abbrev pub field_type : Context → ℕ → Option Declaration → Written → Option Typ
-field_type c n found p = then_by found (λ d. then_by p.last (λ t. option_map (λ l. used_at c n l.body) (find_label t.name (labels_in d.shape))))
+-- what a parameter is in the use of a label at a node m, in a record at a node n: one that stands in the record's type is the record's, and any other is chosen with the label;
+-- the letter 0 of the node m is the type of a field without a value of its own
+abbrev pub label_argument : Choice → ℕ → ℕ → Typ → Subst
+label_argument ch n m owner k = if occurs k owner then ch.letter n k else ch.letter m (suc k)
+
+-- and what an unknown type is there: one that stands in the record's type is the record's, and any other is chosen with the label
+abbrev pub label_filled : Choice → ℕ → ℕ → Typ → Path → Typ
+label_filled ch n m owner o = if mentions o owner then ch.filled n o else ch.filled m o
+
+-- a type of a label as it is used so, where the record's type is `owner`
+abbrev pub used_in_record : ℕ → ℕ → Typ → Typ → Choice → Typ
+used_in_record n m owner t ch = used (label_argument ch n m owner) (label_filled ch n m owner) t
+
+-- the type of a written label of a record, as it is used at the node m of its field, in the record at the node n
+abbrev pub field_type : Context → ℕ → ℕ → Option Declaration → Written → Option Typ
+field_type c n m found p = then_by found (λ d. then_by p.last (λ t. option_map (λ l. used_in_record n m (type_of d) l.body c.chosen) (find_label t.name (labels_in d.shape))))
 
 -- that a written label doesn't stand among earlier ones
 abbrev pub ask_once : ℕ → ℕ → List Name → Written → List Condition

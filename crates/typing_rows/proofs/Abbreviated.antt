@@ -42,7 +42,7 @@ use Rattle.typing_rows.specs.TypeContracts.{types_at}
 use Rattle.typing_rows.specs.Declaring.{applied_by, AppliedAs, AppliesTo}
 use Rattle.typing_rows.proofs.Composed.{as_many}
 use Rattle.typing_rows.proofs.Parameters.{is_parameter, last_is_more, parameter_at, argument_means, same_there}
-use Rattle.typing_rows.proofs.Used.{UsedWith, key_by, root_used}
+use Rattle.typing_steps.proofs.Used.{UsedWith, key_by, root_used}
 use Rattle.typing_rows.proofs.Filled.{reads_tuple, types_same, tuple_is, tuple_means, JoinsEach, each_joined, each_alike}
 use Rattle.typing_rows.proofs.Declared.{node_at, argument_at, parameters_used}
 

@@ -48,7 +48,7 @@ use Rattle.typing_steps.proofs.Making.{con_over}
 use Rattle.typing_rows.specs.TypeContracts.{types_at}
 use Rattle.typing_rows.specs.Declaring.{declared_in, applied_by, AppliedAs, AppliesTo}
 use Rattle.typing_rows.proofs.TypeOrdered.{types_by_nodes}
-use Rattle.typing_rows.proofs.Used.{key_by, root_used}
+use Rattle.typing_steps.proofs.Used.{key_by, root_used}
 
 -- the last of types with one more
 last_same : (us : Typs) (t u : Typ) → and_last us t ≡ and_last us u → t ≡ u
@@ -97,7 +97,7 @@ module _ (R : ℕ → Scheme → Type 0) (nodes : List Node) (C : List ℕ) (N :
     pub alike : DeclaredAs nodes C N declaration named
 
   entry_declaration : {e : Entry} {f : Named} → EntryAs R (DeclaredAs nodes C N) (ExceptionAs nodes C N) e f → kind_of e.kind ≡ type_kind → FindsDeclaration e (an_entry f)
-  entry_declaration (entry_as n k w) is = let h = what_declaration w (k ∙ is) in record { declaration = h.declaration; here = h.here; named = h.named; is = h.is; alike = h.alike }
+  entry_declaration (entry_as n k p w) is = let h = what_declaration w (k ∙ is) in record { declaration = h.declaration; here = h.here; named = h.named; is = h.is; alike = h.alike }
 
   found_declaration : {x : FoundAmong Entry} {y : FoundAmong Named} (e : Entry) → x ≡ an_entry e → kind_of e.kind ≡ type_kind → ComesTo R (DeclaredAs nodes C N) (ExceptionAs nodes C N) x y → FindsDeclaration e y
   found_declaration e f is (to_entry {e = d} {f = g} h) = let s : d ≡ e = cc in subst (λ z. FindsDeclaration z (an_entry g)) s (entry_declaration h (ap (λ (z : Entry). kind_of z.kind) s ∙ is))

@@ -114,7 +114,7 @@ module _ (R : ℕ → Scheme → Type 0) (named : Declaration → Typ) (X : Cons
     pub alike : TypeAs named declaration rule
 
   entry_declaration : {e : Entry} {f : Named} → EntryAs R (TypeAs named) X e f → kind_of e.kind ≡ type_kind → FindsType e (an_entry f)
-  entry_declaration (entry_as n k w) is = let h = what_declaration w (k ∙ is) in record { declaration = h.declaration; here = h.here; rule = h.rule; is = h.is; alike = h.alike }
+  entry_declaration (entry_as n k p w) is = let h = what_declaration w (k ∙ is) in record { declaration = h.declaration; here = h.here; rule = h.rule; is = h.is; alike = h.alike }
 
   pub found_type : {x : FoundAmong Entry} {y : FoundAmong Named} (e : Entry) → x ≡ an_entry e → kind_of e.kind ≡ type_kind → ComesTo R (TypeAs named) X x y → FindsType e y
   found_type e f is (to_entry {e = d} {f = g} h) = let s : d ≡ e = cc in subst (λ z. FindsType z (an_entry g)) s (entry_declaration h (ap (λ (z : Entry). kind_of z.kind) s ∙ is))

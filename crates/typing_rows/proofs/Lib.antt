@@ -17,7 +17,6 @@ pub mod Reading
 pub mod TypeOrdered
 pub mod TypeTerms
 pub mod Composed
-pub mod Used
 pub mod Filled
 pub mod Declared
 pub mod Parameters
@@ -36,3 +35,4 @@ pub mod DeclaredComposed
 pub mod DeclaredNamed
 pub mod DeclaredEnded
 pub mod Surrounding
+pub mod Treating

@@ -38,7 +38,7 @@ use Rattle.typing_rows.proofs.Ending.{row_of_type}
 use Rattle.typing_rows.proofs.Terms.{one, as_row}
 
 -- A part is typed among one name more, whose type is that of an open node, and in which no unknown type stands whatever is chosen.
-pub surrounds_known : {D : Declared} {F : Frame} {a : Sight} {G : Letters} {env : List Entry} {scope : Scope} {type : Choice → Typ} {e : Entry} {x : Name} {n : NodeRef} (place : rules.Place) → IsEntry e x n → Means F a G type n.0 →
+pub surrounds_known : {D : Declared} {F : Frame} {a : Sight} {G : Letters} {env : List Entry} {scope : Scope} {type : Choice → Typ} {e : Entry} {x : Name} {n : NodeRef} (place : rules.Place) → IsEntry e x place n → Means F a G type n.0 →
     ((ch : Choice) → IsKnown (type ch)) → Surrounds D F a G env scope → Surrounds D F a G (e ∷ env) (with_one x place type scope)
 surrounds_known place is p known at = surrounds_named place is p (λ V ch loose g. subst IsKnown (p.is V ch loose g) (known ch)) at
 

@@ -1,16 +1,18 @@
 -- What is recorded for type expressions stays so, and the first record of one is that of no other.
-use Rattle.std.proofs.Common.{◌≡◌, ◌∙◌, ◌&&◌, ℕ, zero, suc, ◌/◌, ◌%◌, ◌<◌, ◌^◌, List, ◌∷◌, Option, Some, None, true, refl, sym, ap, if◌then◌else◌}
+use Rattle.std.proofs.Common.{◌≡◌, ◌∙◌, ◌&&◌, ℕ, zero, suc, ◌/◌, ◌%◌, ◌<◌, ◌^◌, List, ◌∷◌, Option, Some, None, option_map, true, refl, sym, ap, if◌then◌else◌}
 use Rattle.std.proofs.lemmas.Nat.{div-mul-add, mod-mul-add}
 use Rattle.type_model.proofs.Applying.{eqb_same}
+use Rattle.env_table.specs.declared.entries.Entry.{Entry}
 use Rattle.env_table.specs.declared.seen.Seen.{Seen}
 use Rattle.typed_index.specs.Seen.{seen_at, with_note}
 use Rattle.typing_state.specs.declared.parts.Parts.{Parts}
 use Rattle.typing_state.specs.Goes.{Goes}
-use Rattle.typing_state.specs.Notes.{NotedFirst}
+use Rattle.typing_state.specs.Notes.{NotedFirst, Noted, NotedNameless}
 use Rattle.typing_conditions.specs.Standing.{IsIn}
-use Rattle.typing_conditions.specs.Sights.{number_in}
+use Rattle.typing_conditions.specs.Sights.{AreScopesIn, number_in}
 use Rattle.typing_laws.proofs.Bools.{no_yes}
-use Rattle.typing_steps.specs.States.{is_noted}
+use Rattle.typing_steps.specs.States.{is_noted, is_aloud, sight}
+use Rattle.typing_steps.proofs.Recording.{noted_scope}
 use Rattle.typing_rows.specs.Noted.{AreNoted}
 
 -- whatever is typed later
@@ -41,3 +43,19 @@ pub more_noted : {b d : Parts} {number : ℕ} {seen : Seen} (U : List ℕ) → A
 more_noted {b} {d} {number} {seen} U noted small first k (zero, e) =
     let s : number_in b.item number ≡ k = cc in record { item = b.item; place = number; small = small; number = sym s; seen = seen; at = first.after b.item number ∙ here_noted b.item number seen (seen_at b.index) }
 more_noted U noted small first k (suc i, e) = noted k (i, e)
+
+-- the names in scope that were recorded are so still, whatever is typed later
+pub still_scoped : {a b : Parts} → Goes a b → AreScopesIn (sight a).scopes (sight b).scopes
+still_scoped {a} {b} goes i p env h = by _ (λ s e. ap (option_map (λ (x : Seen). x.env)) (goes.recorded i p s e)) h
+  where
+    by : (o : Option Seen) → ((s : Seen) → o ≡ Some s → (sight b).scopes i p ≡ Some s.env) → option_map (λ (s : Seen). s.env) o ≡ Some env → (sight b).scopes i p ≡ Some env
+    by None on k = absurd (cc)
+    by (Some s) on k = on s refl ∙ k
+
+-- they are recorded for a node that is noted after other calls
+pub scope_after : (a b d : Parts) (number : ℕ) (seen : Seen) → Goes a b → Noted b.telling b d number seen → is_aloud a.telling ≡ true → (sight d).scopes a.item number ≡ Some seen.env
+scope_after a b d number seen goes noted aloud = ap (λ i. (sight d).scopes i number) (sym goes.item) ∙ noted_scope b d number seen (ap is_aloud goes.telling ∙ aloud) noted
+
+-- and for one without names of its own
+pub plain_scope : (a b : Parts) (number : ℕ) (env : List Entry) → is_aloud a.telling ≡ true → NotedNameless a b number env None → (sight b).scopes a.item number ≡ Some env
+plain_scope a b number env aloud (names, none, noted) = noted_scope a b number (record { env = env; ty = None; names = names }) aloud noted

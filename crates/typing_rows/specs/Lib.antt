@@ -17,3 +17,5 @@ pub mod Around
 pub mod DeclaredContracts
 pub mod DeclaredOperands
 pub mod Noted
+-- The names in scope that are recorded for them.
+pub mod Treating

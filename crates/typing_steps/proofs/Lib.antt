@@ -20,6 +20,7 @@ pub mod Listing
 pub mod Images
 pub mod Covering
 pub mod Taken
+pub mod Used
 pub mod Sides
 pub mod Constructing
 pub mod Labelling

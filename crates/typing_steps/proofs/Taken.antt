@@ -1,26 +1,21 @@
 -- An instance of a declaration's root: the letters of a node stand for the images of its parameters, and what its unknown types are filled with there for theirs.
-use Rattle.std.proofs.Common.{◌≡◌, ◌∙◌, ◌++◌, inl, inr, ℕ, true, List, [], refl, sym, ap, subst, append-nil, Some, Bool}
-use Rattle.typing_steps.proofs.Sides.{arrow_is}
-use Rattle.level_unify.specs.Solutions.{Loose}
-use Rattle.type_nodes.specs.Links.{reading}
-use Rattle.signature_model.specs.Declarations.{parameters_from}
-use Rattle.type_model.specs.Types.{Path, Typ, occurs}
+use Rattle.std.proofs.Common.{◌≡◌, ◌∙◌, ◌++◌, inl, ℕ, true, List, [], refl, sym, ap, subst, append-nil}
+use Rattle.type_model.specs.Types.{Typ, occurs}
 use Rattle.type_model.specs.Types.{Typ as type}
-use Rattle.type_model.specs.Substitutions.{apply, Subst}
-use Rattle.type_model.proofs.Applying.{or_cases}
-use Rattle.signature_model.specs.Matching.{used, IsKnown}
+use Rattle.type_model.specs.Substitutions.{apply}
+use Rattle.signature_model.specs.Matching.{used}
 use Rattle.typing_model.specs.Contexts.{Choice, Context}
-use Rattle.type_nodes.specs.Nodes.{IsSound, Arrow}
+use Rattle.type_nodes.specs.Nodes.{IsSound}
 use Rattle.type_nodes.specs.Readings.{Types}
 use Rattle.level_unify.specs.Instances.{Instantiated}
 use Rattle.level_unify.proofs.Unified.{fits_loosely}
 use Rattle.typing_conditions.specs.Locals.{IsOwn, Refines}
 use Rattle.typing_conditions.proofs.Own.{own_of}
 use Rattle.typing_conditions.proofs.Steps.{refines_made}
-use Rattle.typing_conditions.specs.Declared.{NoneUnknown, RootAs}
+use Rattle.typing_conditions.specs.Declared.{RootAs}
 use Rattle.typing_conditions.proofs.Roots.{named_bound}
-use Rattle.typing_conditions.proofs.Taking.{HasImages, images_of, take_sound, take_each, take_complete, agree_at, used_named}
-use Rattle.typing_conditions.specs.Sights.{Sight, Letters, AreGiven, AreNodes}
+use Rattle.typing_conditions.proofs.Taking.{HasImages, images_of, take_sound, take_each, take_complete}
+use Rattle.typing_conditions.specs.Sights.{Sight, Letters, AreNodes}
 use Rattle.typing_conditions.specs.Frames.{Frame, Reaches, IsOpen, IsRoot}
 use Rattle.typing_conditions.specs.Judging.{judgements, StartsWith}
 use Rattle.typing_conditions.specs.Steps.{OnlyNodes}
@@ -34,18 +29,14 @@ use Rattle.typing_conditions.proofs.Meaning.{agrees_same, inside_longer}
 use Rattle.typing_conditions.proofs.Hiding.{keeps_as, settles_none, none_doubtful}
 use Rattle.typing_conditions.specs.Hiding.{AreOfRow}
 use Rattle.typing_steps.proofs.Images.{images_in, named_value, nodes_both, given_at, at_given, nodes_at, arrow_inside, images_of_row}
-use Rattle.typing_steps.proofs.Covering.{all_in, side_covers, in_all, root_covers}
 
 -- the letters of a use, which are nodes, and what it carries: nothing is asked, and its node has the type of the use; where that is an arrow, so is each type of the node.
--- Where each variable of the arrow's right side stands in its left one, the letters have their types wherever the left side has the type of the use.
 pub record TakenWith (F : Frame) (scope : Scope) (a : Sight) (G : Letters) (b : Sight) (n : ℕ) (t : Typ) (m : ℕ) : Type 0 where
   pub own : Letters
   pub of_row : AreOfRow n own
   pub nodes : AreNodes own b.nodes
   pub typed : CarriedTo F scope (λ c. []) a G b (own ++ G) (λ ch. used (ch.letter n) (ch.filled n) t) m
   pub splits : (x y : Typ) → t ≡ type.Arrow x y → (K : Types) → IsOwn b.nodes K → (p : Typ) × (q : Typ) × (K m ≡ type.Arrow p q)
-  pub covered : Bool
-  pub implied : covered ≡ true → (x y : Typ) → t ≡ type.Arrow x y → (from to : ℕ) → reading b.nodes m ≡ Some (Arrow from to) → (V : Types) (ch : Choice) → Loose b.nodes V → used (ch.letter n) (ch.filled n) x ≡ V from → AreGiven own V ch
 
 -- An instance of a root that stands for a type has that type as it is used at a node.
 pub root_taken : {F : Frame} {scope : Scope} {G : Letters} {a b : Sight} {C : List ℕ} {N : Types} {arity root m : ℕ} {t : Typ} (n : ℕ) → Reaches F a → IsRoot F a root → RootAs a.nodes C N arity root t →
@@ -77,8 +68,6 @@ root_taken {F} {scope} {G} {a} {b} {C} {N} {arity} {root} {m} {t} n reached is_r
   splits = λ x y e K own_b.
       let (p, q, is) = arrow_inside x y e as_root own.1 in
       (apply (λ v. K (images.image v)) p, apply (λ v. K (images.image v)) q, images.is K own_b.loose ∙ ap (apply (λ v. K (images.image v))) is);
-  covered = side_covers (own.0 root);
-  implied = implied;
 }
   where
     own : (J : Types) × IsOwn a.nodes J
@@ -89,23 +78,6 @@ root_taken {F} {scope} {G} {a} {b} {C} {N} {arity} {root} {m} {t} n reached is_r
 
     letters : Letters
     letters = images_in n N images.image (own.0 root)
-
-    -- what the left side's variables stand for is known by its type
-    implied : side_covers (own.0 root) ≡ true → (x y : Typ) → t ≡ type.Arrow x y → (from to : ℕ) → reading b.nodes m ≡ Some (Arrow from to) → (V : Types) (ch : Choice) → Loose b.nodes V → used (ch.letter n) (ch.filled n) x ≡ V from → AreGiven letters V ch
-    implied covers x y e from to reads V ch loose is =
-        let (p, q, inside) = arrow_inside x y e as_root own.1 in
-        let s : Subst = λ v. used (ch.letter n) (ch.filled n) (N v) in
-        let u : Subst = λ v. V (images.image v) in
-        let known : IsKnown (type.Arrow p q) = subst IsKnown inside (as_root.known own.0 own.1) in
-        let named : type.Arrow x y ≡ type.Arrow (apply N p) (apply N q) = sym e ∙ as_root.is own.0 own.1 ∙ ap (apply N) inside in
-        let left : x ≡ apply N p = cc in
-        let copy : type.Arrow (V from) (V to) ≡ type.Arrow (apply u p) (apply u q) = sym (arrow_is b.nodes V m from to loose reads) ∙ images.is V loose ∙ ap (apply u) inside in
-        let side : V from ≡ apply u p = cc in
-        let both : apply s p ≡ apply u p = sym (used_named (ch.letter n) (ch.filled n) N p known.0) ∙ ap (used (ch.letter n) (ch.filled n)) (sym left) ∙ is ∙ side in
-        let right : all_in p q ≡ true = sym (ap side_covers inside) ∙ covers in
-        at_given n N images.image V ch (own.0 root) (λ v o.
-        named_value n ch (as_root.named own.0 own.1 v o) ∙
-        elim (or_cases (occurs v p) (occurs v q) (sym (ap (occurs v) inside) ∙ o)) [ inl i ↦ agree_at s u p both v i | inr i ↦ agree_at s u p both v (in_all p q right v i) ])
 
     letter_nodes : AreNodes letters b.nodes
     letter_nodes = nodes_at n N images.image b.nodes (own.0 root) images.inside
@@ -158,10 +130,3 @@ root_taken {F} {scope} {G} {a} {b} {C} {N} {arity} {root} {m} {t} n reached is_r
           };
           hidden_too = (tt, tt);
         }
-
--- where the left side is a constructor over all parameters, and no name is an unknown type, it does
-pub taken_covers : {F : Frame} (scope : Scope) (G : Letters) {a b : Sight} {C : List ℕ} {N : Types} {arity root m : ℕ} {t : Typ} (n : ℕ) (reached : Reaches F a) (is_root : IsRoot F a root) (as_root : RootAs a.nodes C N arity root t)
-    (sound : IsSound b.nodes) (taken : Instantiated a.nodes b.nodes root F.level m) (rest : OnlyNodes a b) (o : Path) (y : Typ) → NoneUnknown N → t ≡ type.Arrow (type.Con o (parameters_from 0 arity)) y →
-    (root_taken {F = F} {scope = scope} {G = G} {a = a} {b = b} {C = C} {N = N} {arity = arity} {root = root} {m = m} {t = t} n reached is_root as_root sound taken rest).covered ≡ true
-unfolding root_taken
-taken_covers scope G {a = a} n reached is_root as_root sound taken rest o y plain e = let own = own_of a.nodes reached.sound in root_covers o y plain e as_root own.1

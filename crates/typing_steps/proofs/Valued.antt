@@ -102,7 +102,7 @@ module _ (R : ℕ → Scheme → Type 0) (D : Declaration → rules.Declaration 
   root_of_value (of_module_type e h) k = absurd (cc)
 
   root_of_entry : {e : Entry} {f : Named} → EntryAs R D X e f → kind_of e.kind ≡ value_kind → (root : NodeRef) × (e.what ≡ what.Scheme root)
-  root_of_entry (entry_as n k w) is = root_of_value w (k ∙ is)
+  root_of_entry (entry_as n k p w) is = root_of_value w (k ∙ is)
 
   root_of_found : {a : FoundAmong Entry} {b : FoundAmong Named} (e : Entry) → a ≡ an_entry e → ComesTo R D X a b → kind_of e.kind ≡ value_kind → (root : NodeRef) × (e.what ≡ what.Scheme root)
   root_of_found e f (to_entry {e = d} h) is = let s : d ≡ e = cc in subst (λ (z : Entry). (root : NodeRef) × (z.what ≡ what.Scheme root)) s (root_of_entry h (ap (λ (z : Entry). kind_of z.kind) s ∙ is))

@@ -1,5 +1,5 @@
 -- What the use of a constructor, and that of a label, carries.
-use Rattle.std.specs.Prelude.{◌≡◌, ℕ, ◌==◌, Bool, true, false, List, [], ◌∷◌, ◌++◌, Option, Some, None, if◌then◌else◌}
+use Rattle.std.specs.Prelude.{◌≡◌, ℕ, ◌==◌, Bool, true, false, List, [], ◌∷◌, ◌++◌, Option, Some, None, option_map, if◌then◌else◌}
 use Rattle.type_model.specs.Types.{Typ}
 use Rattle.signature_model.specs.Declarations.{Declaration, Label, type_of}
 use Rattle.signature_model.specs.Entries.{Environment, constructor_kind, label_kind}
@@ -45,12 +45,16 @@ construction_asks c n p given = elim p.last [
       elim (built_by c n p t) [ None ↦ [] | Some b ↦ ask n 1 (place_of t) (test (arity t.name (taken_by b) given) (taken_by b == given)) ]
 ]
 
+-- a node has a type, where there is one
+abbrev pub HasIfThere : Frame → Sight → Letters → Option (Choice → Typ) → Option ℕ → Type 0
+HasIfThere F b G None None = Unit {0}
+HasIfThere F b G None (Some m) = ⊥
+HasIfThere F b G (Some t) None = ⊥
+HasIfThere F b G (Some t) (Some m) = Means F b G t m
+
 -- the node of a constructor's argument has the argument's type, where it takes one
 abbrev pub TakesAs : Frame → Sight → Letters → ℕ → Option Typ → Option ℕ → Type 0
-TakesAs F b G n None None = Unit {0}
-TakesAs F b G n None (Some m) = ⊥
-TakesAs F b G n (Some t) None = ⊥
-TakesAs F b G n (Some t) (Some m) = Means F b G (used_by n t) m
+TakesAs F b G n t m = HasIfThere F b G (option_map (used_by n) t) m
 
 -- The definitions find the same constructor in each context, where its demand is kept. What it asks is carried, with letters of the node `own`; what is built and
 -- what is taken have its types as they are used there.

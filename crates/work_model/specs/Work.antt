@@ -1,5 +1,5 @@
 -- How many tokens a run may lex, how many its parser may take and how many items it may type, by its lines, their replies and the texts that its queries try: the prelude's tokens once; for each query what is after the first change since the last one; and for each text that it tries all of that.
-use Rattle.std.specs.Prelude.{◌≡◌, ◌⊎◌, All, ℕ, ◌+◌, ◌-◌, ◌*◌, ◌≤◌, min, nat_lt, List, [], ◌∷◌, ◌++◌, length, take, Bool, true, false, is_some, Option, Some, None, if◌then◌else◌}
+use Rattle.std.specs.Prelude.{◌≡◌, ◌⊎◌, All, ℕ, ◌+◌, ◌-◌, ◌*◌, ◌≤◌, min, nat_lt, List, [], ◌∷◌, ◌++◌, length, take, Bool, true, false, is_some, Option, Some, None, nat_eq, if◌then◌else◌}
 use Rattle.text_model.specs.Edits as edit
 use Rattle.text_model.specs.Edits.{apply, text_limit}
 use Rattle.text_model.specs.Positions.{offset}
@@ -7,8 +7,10 @@ use Rattle.token_model.specs.Kinds.{Tok}
 use Rattle.token_model.specs.Tokens.{Lex}
 use Rattle.tree_model.specs.Trees.{Tree}
 use Rattle.grammar_model.specs.Tables.{Table}
+use Rattle.grammar_model.specs.Trees.{yield_of}
+use Rattle.grammar_model.specs.Machine.{Stack, node_of}
 use Rattle.grammar_model.specs.Ocaml.{grammar, program_text}
-use Rattle.recovery_model.specs.Items.{Mark, sound, held, marked, Item, Parser}
+use Rattle.recovery_model.specs.Items.{Mark, sound, held, marked, Item, Parser, item_row, has_item}
 use Rattle.recovery_model.specs.Recovery.{start, step}
 use Rattle.query_model.specs.TypedNodes.{Typed, innermost_at}
 use Rattle.service_model.specs.Requests.{Asked, tell, type_enclosing, complete_prefix, locate, occurrences, outline, errors, case_analysis, construct, Reading, asks, refused, reading}
@@ -83,6 +85,33 @@ lexed_behind place tokens = 32 + ends_at place tokens
 abbrev pub shifted_behind : ℕ → List Tok → ℕ
 shifted_behind place tokens = kept_behind (take (length tokens - lexed_behind place tokens) tokens) + 2 * lexed_behind place tokens
 
+-- the lesser of a place and another, if there is one: the first changed byte where bytes from one place on are changed and had been from another
+abbrev pub sooner : ℕ → Option ℕ → ℕ
+sooner first None = first
+sooner first (Some before) = min first before
+
+-- where the first of some tokens starts
+abbrev pub start_of : List Tok → Option ℕ
+start_of [] = None
+start_of (t ∷ ts) = Some t.start
+
+-- where the item `let` starts that is open in these frames, the outermost one; none, where none is open
+abbrev pub open_start : Stack → Option ℕ
+open_start [] = None
+open_start (f ∷ S) = if has_item S then open_start S else (if nat_eq f.number item_row then start_of (yield_of (node_of f)) else None)
+
+-- the same of the parser after the first tokens of a text
+unfoldable pub open_behind : List Tok → Option ℕ
+open_behind ts = open_start (run_on (grammar program_text) ts (start (grammar program_text))).state.stack
+
+-- the lesser of a place and the start of the item `let` that is open after the tokens that end before it, the last 32 of them left out
+abbrev pub item_place : ℕ → List Tok → ℕ
+item_place place tokens = sooner place (open_behind (take (length tokens - lexed_behind place tokens) tokens))
+
+-- the same bound by that place: 64 more than twice the tokens that end there or behind; `work_laws` has that it is no smaller
+abbrev pub second_behind : ℕ → List Tok → ℕ
+second_behind place tokens = 64 + 2 * ends_at (item_place place tokens) tokens
+
 -- no more than these of a text
 abbrev pub IsBehind : List ℕ → ℕ → Amount → Type 0
 IsBehind text place n = (tokens : List Tok) → Lex text tokens → (n.lexed ≤ lexed_behind place tokens) × (n.shifted ≤ shifted_behind place tokens)
@@ -137,11 +166,6 @@ WorksIf true w a asked n = (tried : List (List ℕ)) × MayTry w.text a tried ×
 abbrev pub LineWorks : Owed → Reading → List (List ℕ) → Amount → Type 0
 LineWorks w (asks a) asked n = WorksIf (is_query w.text a) w a asked n
 LineWorks w (refused r) asked n = (asked ≡ w.asked) × IsNothing n
-
--- the first changed byte where bytes from one place on are changed and had been from another, or nothing had been
-abbrev pub sooner : ℕ → Option ℕ → ℕ
-sooner first None = first
-sooner first (Some before) = min first before
 
 -- the first changed byte behind an edit
 abbrev pub edited : edit.Outcome → Option ℕ → Option ℕ

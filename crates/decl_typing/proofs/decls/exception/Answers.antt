@@ -1,10 +1,10 @@
 use Rattle.type_expressions.proofs.Untyped.{untyped_then, noted_untyped, plain_untyped}
 use Rattle.typing_state.proofs.Going.{goes_trans}
 use Rattle.std.proofs.Common.{◌∙◌, None, option_map, refl, sym, ap}
-use Rattle.token_model.specs.Kinds.{Tok}
 use Rattle.syntax_tree.specs.View.{node_view, tok_of}
 use Rattle.typing_rows.proofs.DeclaredOrdered.{index_reports}
-use Rattle.decl_typing.proofs.Entering.{exception_closes, scope_after}
+use Rattle.decl_typing.proofs.Entering.{exception_closes}
+use Rattle.decl_typing.proofs.Treating.{exception_treats}
 use Rattle.decl_typing.proofs.Settling.{exception_settles}
 use Rattle.decl_typing.proofs.decls.exception.Goals as goal
 
@@ -40,11 +40,11 @@ returns-in_default-clause-settles c =
 pub returns-clause-means : goal.returns-clause-means
 returns-clause-means c = record {
   root = c.in_ok-root.root.0;
-  name = (tok_of c.in-Some.name.now).name;
+  name = tok_of c.in-Some.name.now;
   entry = c.in_ok-entry.ensures;
-  named = sym (ap (option_map (λ (k : Tok). k.name)) (sym (ap (option_map (λ t. tok_of t.now)) c.in-Some.is) ∙ c.token.ensures));
+  named = sym (sym (ap (option_map (λ t. tok_of t.now)) c.in-Some.is) ∙ c.token.ensures);
   closes = exception_closes c.args.at.now c.exception_type.new.at c.note.new.self c.args.env.now c.args.number (node_view c.args.node.now) c.args.at.now.constants.exn.0 c.in_ok-root.root.0 c.note.ensures.rest c.note.ensures.goes c.in_ok-root.ensures.means;
-  scoped = scope_after c.args.at.now c.exception_type.new.at c.note.new.self c.args.number (record { env = c.args.env.now; ty = None; names = c.in_ok-names.names }) c.exception_type.ensures.goes c.in_ok-note.ensures.noted;
+  treats = exception_treats c.args.at.now c.exception_type.new.at c.note.new.self c.args.env.now c.args.number (node_view c.args.node.now) (record { env = c.args.env.now; ty = None; names = c.in_ok-names.names }) c.exception_type.ensures.goes c.in_ok-root.ensures.treats refl c.in_ok-note.ensures.noted c.note.ensures.goes;
 }
 
 pub returns-in_default-clause-means : goal.returns-in_default-clause-means

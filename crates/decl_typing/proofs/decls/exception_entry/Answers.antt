@@ -14,11 +14,12 @@ same_there f (Some x) = refl
 
 pub returns : goal.returns
 returns c =
-    IfOk-weaker c.owned-2.result _ _ (λ x is. subst (λ e. IsException e (tok_of c.args.name.now).name c.args.root.0 (is_some (first_in c.args.number (node_view c.args.node.now) 2))) (sym is) (record {
+    IfOk-weaker c.owned-2.result _ _ (λ x is. subst (λ e. IsException e (tok_of c.args.name.now) c.args.root.0 (is_some (first_in c.args.number (node_view c.args.node.now) 2))) (sym is) (record {
       cell = c.in_ok-owned.field-0;
       what = refl;
       root = ap (λ k. k.root.0) c.in_ok-owned.ensures;
       takes = ap (λ k. k.has_argument) c.in_ok-owned.ensures ∙ c.is_some.ensures ∙ same_there operand_view c.first_operand.result ∙ ap is_some c.first_operand.ensures;
       name = c.in_ok-share-2.ensures;
       kind = refl;
+      placed = refl;
     })) c.owned-2.ensures

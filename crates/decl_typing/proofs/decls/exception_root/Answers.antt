@@ -11,6 +11,7 @@ use Rattle.type_nodes.specs.Changes.{Makes}
 use Rattle.type_expressions.specs.Items.{names_of, nodes_of}
 use Rattle.decl_typing.proofs.Denoting.{no_argument, some_argument}
 use Rattle.decl_typing.proofs.Settling.{no_settles, some_settles}
+use Rattle.decl_typing.proofs.Treating.{no_treats, some_treats}
 use Rattle.decl_typing.proofs.decls.exception_root.Goals as goal
 
 pub returns-in-None-clause-goes : goal.returns-in-None-clause-goes
@@ -55,3 +56,14 @@ returns-in-None-clause-untyped c = untyped_same c.args.at.now
 
 pub returns-in_ok-from-in-Some-clause-untyped : goal.returns-in_ok-from-in-Some-clause-untyped
 returns-in_ok-from-in-Some-clause-untyped c = ok_any c.arrow.result _ (untyped_then c.in_ok-from-in-Some.ensures.untyped (store_untyped c.read_type.new.at c.arrow.new.self c.arrow.ensures.rest))
+
+pub returns-in-None-clause-treats : goal.returns-in-None-clause-treats
+returns-in-None-clause-treats c =
+    let none : first_in c.args.number (node_view c.args.node.now) 2 ≡ None = sym c.first_operand.ensures ∙ ap (option_map operand_view) c.in-None.is in
+    no_treats c.args.at.now c.args.at.now c.args.env.now c.args.number (node_view c.args.node.now) none
+
+pub returns-in_ok-from-in-Some-clause-treats : goal.returns-in_ok-from-in-Some-clause-treats
+returns-in_ok-from-in-Some-clause-treats c =
+    let o = operand_view c.in-Some.argument in
+    let there : first_in c.args.number (node_view c.args.node.now) 2 ≡ Some o = sym c.first_operand.ensures ∙ ap (option_map operand_view) c.in-Some.is in
+    ok_any c.arrow.result _ (some_treats c.args.at.now c.read_type.new.at c.arrow.new.self c.args.env.now o c.arrow.ensures.goes c.in_ok-from-in-Some.ensures.treats c.args.number (node_view c.args.node.now) there)

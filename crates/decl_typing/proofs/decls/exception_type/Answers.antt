@@ -8,6 +8,7 @@ use Rattle.typing_rows.proofs.DeclaredOrdered.{store_reports}
 use Rattle.typing_model.specs.BuiltIns.{exn_type}
 use Rattle.decl_typing.proofs.Denoting.{closed_denotes}
 use Rattle.decl_typing.proofs.Settling.{settles_deeper}
+use Rattle.decl_typing.proofs.Treating.{treats_deeper}
 use Rattle.decl_typing.proofs.decls.exception_type.Goals as goal
 
 pub returns-clause-goes : goal.returns-clause-goes
@@ -33,3 +34,6 @@ returns-clause-means c =
 
 pub returns-clause-untyped : goal.returns-clause-untyped
 returns-clause-untyped c = untyped_then (deeper_untyped c.args.at.now c.exception_root-read.new.at c.saturating_add-at.result c.args.at.now.level c.in_ok-root.ensures.untyped) (store_untyped (with_level c.exception_root-read.new.at c.args.at.now.level) c.generalise.new.self c.generalise.ensures.rest)
+
+pub returns-clause-treats : goal.returns-clause-treats
+returns-clause-treats c = treats_deeper c.args.at.now c.exception_root-read.new.at c.generalise.new.self c.saturating_add-at.result c.args.at.now.level c.args.env.now c.args.number (node_view c.args.node.now) c.generalise.ensures.goes c.in_ok-root.ensures.treats

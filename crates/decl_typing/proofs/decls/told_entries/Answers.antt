@@ -2,7 +2,7 @@ use Rattle.decl_typing.proofs.Denoting.{only_same, index_then}
 use Rattle.std.proofs.Common.{◌≡◌, ◌∙◌, ◌<◌, ◌+◌, length, None, refl, sym, ap, subst}
 use Rattle.typing_state.proofs.Going.{goes_refl, goes_trans}
 use Rattle.type_expressions.proofs.Untyped.{untyped_same, untyped_then, noted_untyped}
-use Rattle.text_terms.specs.Bytes.{str_bytes}
+use Rattle.syntax_tree.specs.View.{tok_of}
 use Rattle.decl_groups.specs.declared.groups.Right.{Right}
 use Rattle.decl_groups.specs.declared.groups.Right.TheVariants.{Abstract, Abbreviation, Reexport, Own}
 use Rattle.decl_groups.specs.declared.groups.Told.{Told}
@@ -47,7 +47,7 @@ loop-place-preserved c =
       untyped = untyped_then c.loop-place.invariant.untyped (noted_untyped c.loop-place.at c.note.new.self _ _ refl c.in_ok-note.ensures.noted c.note.ensures.rest);
       made = subst (FirstTold c.args.declaration.now.value ts (k + 1) c.args.entries.now.items) (sym c.in_ok-push.ensures.pushed)
           (first_more c.args.declaration.now.value ts k c.named-item.result c.args.entries.now.items c.loop-place.entries.items c.in_ok-entry.entry lt c.named-item.is
-          (λ small. subst (λ j. IsToldEntry c.args.declaration.now.value j (str_bytes c.named-item.result.1.now.name) c.in_ok-entry.entry.value) (c.number_of.ensures small) c.in_ok-entry.ensures) c.loop-place.invariant.made);
+          (λ small. subst (λ j. IsToldEntry c.args.declaration.now.value j (tok_of c.named-item.result.1.now) c.in_ok-entry.entry.value) (c.number_of.ensures small) c.in_ok-entry.ensures) c.loop-place.invariant.made);
     }
 
 pub returns-clause-untyped : goal.returns-clause-untyped

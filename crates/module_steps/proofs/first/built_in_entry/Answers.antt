@@ -1,5 +1,6 @@
-use Rattle.std.proofs.Common.{◌∙◌, refl, sym, subst}
+use Rattle.std.proofs.Common.{◌∙◌, refl, sym, ap, subst}
 use Rattle.std.proofs.lemmas.Result.{IfOk-weaker}
+use Rattle.env_table.specs.declared.entries.Place.TheVariants as place
 use Rattle.first_laws.specs.Built.{DeclaresBuiltIn, EntersBuiltIn}
 use Rattle.module_steps.proofs.first.built_in_entry.Goals as goal
 
@@ -20,6 +21,7 @@ returns-clause-declares c =
     IfOk-weaker c.owned-2.result _ _ (λ r same level. subst (λ e. EntersBuiltIn c.args.at.now c.built_in_declaration.new.at c.args.which e) (sym same) (record {
       name = c.in_ok-from_str.ensures ∙ c.name.ensures;
       kind = refl;
+      place = ap place.BuiltIn c.number.ensures;
       declaration = c.in_ok-owned.field-0;
       is = refl;
       declared = subst (λ d. DeclaresBuiltIn c.args.at.now c.built_in_declaration.new.at c.args.which d) (sym c.in_ok-owned.ensures) (c.in_ok-declaration.ensures.declares level);

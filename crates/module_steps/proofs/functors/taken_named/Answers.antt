@@ -16,6 +16,7 @@ returns c = (
     record {
       name = ap (λ (e : Entry). str_bytes e.name) c.in_ok-entry.ensures ∙ c.in_ok-share.ensures;
       kind = ap (λ (e : Entry). e.kind) c.in_ok-entry.ensures;
+      place = ap (λ (e : Entry). e.place) c.in_ok-entry.ensures;
       sig = module_is c.in_ok-shared.field-0 (sig_of c.args.template.value) c.in_ok-entry.entry.value.what (ap (λ (e : Entry). e.what) c.in_ok-entry.ensures) (c.in_ok-shared.ensures ∙ ap (λ (t : Template). sig_of t) c.deref.ensures);
     },
   ),

@@ -1,5 +1,6 @@
 use Rattle.std.proofs.Common.{◌≡◌, ◌∙◌, ◌+◌, ◌<◌, ◌∷◌, length, map, drop, sym, ap, arith}
 use Rattle.std.proofs.lemmas.List.{drop_more, drop_all}
+use Rattle.std.proofs.lemmas.Result.{IfOk-weaker}
 use Rattle.tree_model.specs.Extents.{extent_of}
 use Rattle.syntax_tree.specs.declared.tree.Node.{out-Node}
 use Rattle.syntax_tree.specs.View.{node_view}
@@ -28,7 +29,8 @@ loop-item-preserved g c =
     prelude_next t c.saturating_add-number.result c.loop-item.invariant cut (c.saturating_add-number.ensures ∙ ap (behind c.loop-item.number) size) c.type_item.ensures.goes operand c.in_ok-type_item.ensures.specifies
 
 pub returns-clause-outside : goal.returns-clause-outside
-returns-clause-outside g c = λ new. prelude_ends c.loop-item.invariant (ap (map (λ n. node_view n.value)) (drop_all c.loop-item.item-index c.deref-item-items.result.now c.loop-item-test.false)) (fresh_new c.args.at.now new)
+returns-clause-outside g c =
+    IfOk-weaker c.of_prelude.result _ _ (λ names there new. prelude_ends c.loop-item.invariant (ap (map (λ n. node_view n.value)) (drop_all c.loop-item.item-index c.deref-item-items.result.now c.loop-item-test.false)) names there (fresh_new c.args.at.now new)) c.of_prelude.ensures
 
 pub returns-clause-goes : goal.returns-clause-goes
 returns-clause-goes g c = goes_trans c.args.at.now c.loop-item.invariant.begun c.loop-item.at c.loop-item.invariant.before c.loop-item.invariant.goes

@@ -18,6 +18,10 @@ use Rattle.typing_rows.specs.DeclaredContracts.{SettlesFirst}
 use Rattle.typing_rows.specs.DeclaredOperands.{SettlesOperands, SettlesGiven, SettlesRow}
 use Rattle.typing_rows.proofs.DeclaredOrdered.{none_settled, all_settled}
 use Rattle.type_expressions.proofs.Settling as settled
+use Rattle.type_reading.proofs.Answering.{on_ok}
+use Rattle.typing_rows.specs.Treating.{TreatsOperands, TreatsGiven, TreatsFirst}
+use Rattle.typing_rows.proofs.Treating.{none_first, all_treated}
+use Rattle.type_expressions.proofs.Treating as treated
 use Rattle.declared_rows.specs.Contracts.{DenotesFirst}
 use Rattle.declared_rows.specs.Operands.{DenotesPart, DenotesOperands, DenotesGiven, DenotesEnds}
 use Rattle.declared_rows.proofs.Ordered.{none_denoted, all_denoted}
@@ -33,6 +37,7 @@ read_each-loop-part-preserved t c =
     record {
       goes = goes_trans c.args.at.now c.loop-part.at c.read_type.new.at c.loop-part.invariant.goes c.read_type.ensures.goes;
       untyped = untyped_then c.loop-part.invariant.untyped c.in_ok-ty.ensures.untyped;
+      treats = λ operands. treated.each_treats c.args.at.now c.loop-part.at c.read_type.new.at c.args.env.now all i x lt c.part-item.is operands (c.loop-part.invariant.treats operands) c.loop-part.invariant.goes c.read_type.ensures.goes c.in_ok-ty.ensures.treats;
       reads = λ item operands. each_read c.args.at.now c.loop-part.at c.read_type.new.at c.args.env.now all i x c.loop-part.types.items c.push.new.list.items c.in_ok-ty.ty lt c.part-item.is c.in_ok-push.ensures.pushed operands
           (c.loop-part.invariant.reads item operands) c.loop-part.invariant.goes (c.in_ok-ty.ensures.carries item);
       settles = λ names over operands. settled.each_settles c.args.at.now c.loop-part.at c.read_type.new.at c.args.env.now names all i x c.loop-part.types.items c.push.new.list.items c.in_ok-ty.ty lt c.part-item.is c.in_ok-push.ensures.pushed operands
@@ -45,6 +50,7 @@ pub read_each-loop-part-init : goal.read_each-loop-part-init
 read_each-loop-part-init t c = record {
   goes = goes_refl c.args.at.now;
   untyped = untyped_same c.args.at.now;
+  treats = λ operands. none_first c.args.at.now c.args.env.now (types_read c.args.at.now.item (map operand_view c.args.parts.now));
   reads = λ item operands.
       let all = types_read c.args.at.now.item (map operand_view c.args.parts.now) in
       subst (λ ns. ReadsFirst c.args.at.now c.args.at.now c.args.env.now all all (numbers ns)) (sym c.new-types.ensures.items) (none_read c.args.at.now c.args.env.now all);
@@ -111,6 +117,9 @@ read_parts-returns-in_ok-parts-in_default t c =
       means = IfOk-weaker c.read_each.result _ _ (λ ms reads names ps over nodes.
           denoted.other_denotes c.args.at.now c.read_each.new.at c.args.env.now names ps c.args.number (node_view c.args.node.now) (numbers ms.items) (not_app_row c.args.node.now c.in_default.not-Tapp)
           (subst (λ os. DenotesOperands c.args.at.now c.read_each.new.at c.args.env.now names ps os (numbers ms.items)) (ap (map operand_view) c.deref.ensures.value ∙ c.in_ok-parts-in_default.ensures) (reads names ps over nodes))) c.read_each.ensures.means;
+      treats = on_ok c.read_each.result (λ reads.
+          treated.other_treats c.args.at.now c.read_each.new.at c.args.env.now c.args.number (node_view c.args.node.now) (not_app_row c.args.node.now c.in_default.not-Tapp)
+          (subst (TreatsOperands c.args.at.now c.read_each.new.at c.args.env.now) (ap (map operand_view) c.deref.ensures.value ∙ c.in_ok-parts-in_default.ensures) reads)) c.read_each.ensures.treats;
       untyped = c.read_each.ensures.untyped;
       goes = c.read_each.ensures.goes;
     }
@@ -227,3 +236,39 @@ read_given-returns-in_ok-ty-in-None-clause-untyped t c = ok_any c.one_of.result 
 
 pub read_each-returns-clause-untyped : goal.read_each-returns-clause-untyped
 read_each-returns-clause-untyped t c = c.loop-part.invariant.untyped
+
+pub read_type-returns-clause-treats : goal.read_type-returns-clause-treats
+read_type-returns-clause-treats t c =
+    treated.operand_treats c.args.at.now c.read_row.new.at c.note.new.self c.args.env.now c.args.ty (record { env = c.args.env.now; ty = None; names = c.in_ok-read.read.names }) c.read_row.ensures.goes c.in_ok-read.ensures.treats refl c.in_ok-note.ensures.noted c.note.ensures.goes
+
+pub read_row-returns-in_ok-any-in-None-clause-treats : goal.read_row-returns-in_ok-any-in-None-clause-treats
+read_row-returns-in_ok-any-in-None-clause-treats t c = treated.missing_treats c.args.at.now c.unresolved.new.at c.args.env.now c.args.ty c.in-None.is
+
+pub read_row-returns-in_ok-types-in-Some-clause-treats : goal.read_row-returns-in_ok-types-in-Some-clause-treats
+read_row-returns-in_ok-types-in-Some-clause-treats t c =
+    ok_any c.formed.result _ (treated.node_treats c.args.at.now c.read_parts.new.at c.formed.new.at c.args.env.now c.args.ty c.in-Some.node c.in-Some.is c.in_ok-types-in-Some.ensures.treats c.formed.ensures.goes)
+
+pub read_parts-returns-in-Tapp-clause-treats : goal.read_parts-returns-in-Tapp-clause-treats
+read_parts-returns-in-Tapp-clause-treats t c =
+    on_ok c.read_given.result (λ reads. treated.app_treats c.args.at.now c.read_given.new.at c.args.env.now c.args.number (node_view c.args.node.now) (app_row c.args.node.now c.in-Tapp.is)
+    (subst (TreatsGiven c.args.at.now c.read_given.new.at c.args.env.now) c.operand_in.ensures reads)) c.read_given.ensures.treats
+
+pub read_given-returns-in_ok-note_plain-in-Some-clause-treats : goal.read_given-returns-in_ok-note_plain-in-Some-clause-treats
+read_given-returns-in_ok-note_plain-in-Some-clause-treats t c =
+    let items = c.in-Some.several.items in
+    let some : several (operand_view c.args.left) ≡ Some (map operand_view items) = sym c.in_ok-several.ensures ∙ ap (λ o. option_map (λ os. map operand_view os.items) o) c.in-Some.is in
+    on_ok c.read_each.result (λ reads.
+    treated.several_treats c.args.at.now c.note_plain.new.self c.read_each.new.at c.args.env.now (operand_view c.args.left) (map operand_view items) some c.in_ok-note_plain-in-Some.ensures.noted c.note_plain.ensures.goes
+    (subst (λ os. TreatsOperands c.note_plain.new.self c.read_each.new.at c.args.env.now (map operand_view os)) c.deref.ensures.value reads) c.read_each.ensures.goes) c.read_each.ensures.treats
+
+pub read_given-returns-in_ok-ty-in-None-clause-treats : goal.read_given-returns-in_ok-ty-in-None-clause-treats
+read_given-returns-in_ok-ty-in-None-clause-treats t c =
+    let none : several (operand_view c.args.left) ≡ None = sym c.in_ok-several.ensures ∙ ap (λ o. option_map (λ os. map operand_view os.items) o) c.in-None.is in
+    ok_any c.one_of.result _ (treated.alone_treats c.args.at.now c.read_type.new.at c.args.env.now (operand_view c.args.left) none c.in_ok-ty-in-None.ensures.treats)
+
+pub read_each-returns-clause-treats : goal.read_each-returns-clause-treats
+read_each-returns-clause-treats t c = λ operands.
+    let all = c.args.parts.now in
+    let none = drop_all c.loop-part.part-index all c.loop-part-test.false in
+    all_treated c.args.at.now c.loop-part.at c.args.env.now (types_read c.args.at.now.item (map operand_view all))
+    (subst (λ os. TreatsFirst c.args.at.now c.loop-part.at c.args.env.now (types_read c.args.at.now.item (map operand_view all)) (types_read c.args.at.now.item (map operand_view os))) none (c.loop-part.invariant.treats operands))

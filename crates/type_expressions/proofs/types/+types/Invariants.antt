@@ -9,6 +9,7 @@ use Rattle.typing_state.specs.Goes.{Goes}
 use Rattle.typing_rows.specs.TypeContracts.{ReadsFirst}
 use Rattle.typing_rows.specs.Rows.{types_read}
 use Rattle.typing_rows.specs.Operands.{IsTypeOperand}
+use Rattle.typing_rows.specs.Treating.{TreatsFirst}
 use Rattle.type_expressions.specs.Untyped.{Untyped}
 use Rattle.type_expressions.specs.Items.{HasNodes, IsOfItem, IsOver}
 use Rattle.type_expressions.proofs.types.+types.Given as goal
@@ -32,6 +33,7 @@ abbrev pub invariant-read_each-loop-part : goal.invariant-read_each-loop-part
 invariant-read_each-loop-part l = record {
   goes : Goes l.fn.at l.at;
   untyped : Untyped l.fn.at l.at;
+  treats : All IsTypeOperand (map operand_view l.parts) → TreatsFirst l.fn.at l.at l.env (types_read l.fn.at.item (map operand_view l.parts)) (types_read l.fn.at.item (map operand_view (drop l.part-index l.parts)));
   reads : IsOfItem l.variables → All IsTypeOperand (map operand_view l.parts) →
       ReadsFirst l.fn.at l.at l.env (types_read l.fn.at.item (map operand_view l.parts)) (types_read l.fn.at.item (map operand_view (drop l.part-index l.parts))) (numbers l.types.items);
   settles : (names : List Name) → IsOver l.variables names → All IsTypeOperand (map operand_view l.parts) →

@@ -13,6 +13,7 @@ returns-clause-added c =
       is = record {
         name = ap (λ (e : Entry). str_bytes e.name) c.in_ok-entry.ensures ∙ c.in_ok-share.ensures;
         kind = ap (λ (e : Entry). e.kind) c.in_ok-entry.ensures;
+        place = ap (λ (e : Entry). e.place) c.in_ok-entry.ensures;
         what = ap (λ (e : Entry). e.what) c.in_ok-entry.ensures;
       };
       env = c.in_ok-self.ensures ∙ ap (λ (e : Entry). e ∷ c.args.self.now.env) c.in_ok-shared.ensures;

@@ -1,11 +1,14 @@
-use Rattle.std.proofs.Common.{refl, arith}
+use Rattle.std.proofs.Common.{refl, sym, subst, arith}
 use mathlib.Core.Bool.{Bool-set}
 use Rattle.std.proofs.Math.Logic.{∥∥₁_elim, ∥∥₁_map}
 use Rattle.text_analysis.specs.Items.{views_of}
 use Rattle.text_analysis.proofs.PointLaws.{points_fronts}
 use Rattle.text_analysis.proofs.Refused.{items_refused}
 use Rattle.text_analysis.proofs.Silent.{items_silent}
-use Rattle.text_analysis.proofs.TypedNodes.{items_typed}
+use Rattle.type_nodes.specs.Views.{numbers}
+use Rattle.weak_variables.specs.Free.{FreeOf, IsFound}
+use Rattle.weak_variables.specs.Search.{lists_of}
+use Rattle.text_analysis.proofs.TypedNodes.{items_typed, items_settled}
 use Rattle.prelude_checks.proofs.Prelude.{first_names, is_first}
 use Rattle.text_analysis.proofs.kept.TyperAnalyser.found.Goals as goal
 
@@ -40,4 +43,10 @@ pub returns-clause-refused : goal.returns-clause-refused
 returns-clause-refused c = λ lets. ∥∥₁_map c.args.self.now.known (λ k. items_refused k.3.ends.given k.2 c.len-nodes.ensures.plain first_names is_first lets)
 
 pub returns-clause-typed : goal.returns-clause-typed
-returns-clause-typed c = λ lets. ∥∥₁_map c.args.self.now.known (λ k. items_typed k.3.ends.given k.2 c.len-nodes.ensures.plain first_names is_first lets _ refl refl)
+returns-clause-typed c = λ lets. ∥∥₁_map c.args.self.now.known (λ k. (items_typed k.3.ends.given k.2 c.len-nodes.ensures.plain first_names is_first lets _ refl refl).typed)
+
+pub returns-clause-settled : goal.returns-clause-settled
+returns-clause-settled c = λ settled lets.
+    let t = c.args.self.now in
+    ∥∥₁_map t.known (λ k. items_settled _ (items_typed k.3.ends.given k.2 c.len-nodes.ensures.plain first_names is_first lets _ refl refl) (lists_of t.typed.free.items) k.3.has_free refl
+    (subst (λ ns. FreeOf t.typed.parts.store.nodes (IsFound (lists_of t.typed.free.items)) (numbers ns)) (sym c.deref.ensures.value) settled))

@@ -31,3 +31,6 @@ invariant_of-self-in-Break-branch-3 g c = record { known = known_kept c.cut.new.
 
 pub invariant_of-self-2 : goal.invariant_of-self-2
 invariant_of-self-2 g c = record { known = known_kept c.cut.new.self c.go_on.new.self (known_kept c.args.self.now.typed c.cut.new.self c.args.self.now.known c.cut.ensures.typed) c.go_on.ensures.chained }
+
+pub returns-clause-settled : goal.returns-clause-settled
+returns-clause-settled g c = c.in_ok-self.ensures

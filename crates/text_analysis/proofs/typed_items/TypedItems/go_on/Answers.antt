@@ -9,7 +9,7 @@ pub loop-k-preserved : goal.loop-k-preserved
 loop-k-preserved g c =
     let k = c.loop-k.k in
     let item = c.index-items-k.result in
-    let (front, typed, lexed, shifted, grows, chained) = c.loop-k.invariant in
+    let (front, typed, lexed, shifted, grows, chained, listed) = c.loop-k.invariant in
     let done = c.in_ok-type_next.ensures.done in
     let more : k + 1 - c.args.place ≡ suc (k - c.args.place) = omega arith in
     let added = c.add_typed.ensures in (
@@ -18,14 +18,15 @@ loop-k-preserved g c =
       ap (λ t. t.lexed) added ∙ lexed,
       ap (λ t. t.shifted) added ∙ shifted,
       search rules,
-      λ first env are. c.type_next.ensures.typed first env (chained first env are),
+      λ first env are. c.type_next.ensures.typed listed first env (chained first env are),
+      c.in_ok-type_next.ensures.listed listed,
     )
 
 pub returns-in_err-type_next-clause-failed : goal.returns-in_err-type_next-clause-failed
 returns-in_err-type_next-clause-failed g c =
     let k = c.loop-k.k in
     let place = c.args.place in
-    let (front, typed, lexed, shifted, grows, chained) = c.loop-k.invariant in
+    let (front, typed, lexed, shifted, grows, chained, listed) = c.loop-k.invariant in
     let within = c.loop-k-test.true in
     let whole : k ≡ place + (k - place) = let b = c.loop-k.auto.k in omega arith in
     at_any c.from_residual.result (

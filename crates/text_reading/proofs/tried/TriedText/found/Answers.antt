@@ -24,23 +24,23 @@ returns-clause-parsed g c =
 pub returns-clause-found : goal.returns-clause-found
 returns-clause-found g c =
     let typer = c.in-Some-Some.typer.now in
-    let holds = bound_items (g.A.Analyser.items typer) (trees_in c.self.inside.kept.tokens) (known g.A.Analyser.items c.self.inside.types) c.in-Some-Some.ensures' c.self.invariant.are in
+    let holds = bound_items (g.A.Analyser.items typer) (trees_in c.self.inside.kept.tokens) (known g.A.Analyser.items c.self.inside.types) c.in-Some-Some.ensures'.known c.self.invariant.are in
     (typer, holds ∙ sym c.in-Some-Some.ensures.tree, c.found.ensures.found)
 
 pub returns-clause-silent : goal.returns-clause-silent
 returns-clause-silent g c =
     let typer = c.in-Some-Some.typer.now in
-    let holds = bound_items (g.A.Analyser.items typer) (trees_in c.self.inside.kept.tokens) (known g.A.Analyser.items c.self.inside.types) c.in-Some-Some.ensures' c.self.invariant.are in
+    let holds = bound_items (g.A.Analyser.items typer) (trees_in c.self.inside.kept.tokens) (known g.A.Analyser.items c.self.inside.types) c.in-Some-Some.ensures'.known c.self.invariant.are in
     subst (λ (ts : List Tree). AreTypable ts → are_warnings c.found.result.faults.now.list.items ≡ true) (holds ∙ sym c.in-Some-Some.ensures.tree) c.found.ensures.silent
 
 pub returns-clause-refused : goal.returns-clause-refused
 returns-clause-refused g c =
     let typer = c.in-Some-Some.typer.now in
-    let holds = bound_items (g.A.Analyser.items typer) (trees_in c.self.inside.kept.tokens) (known g.A.Analyser.items c.self.inside.types) c.in-Some-Some.ensures' c.self.invariant.are in
+    let holds = bound_items (g.A.Analyser.items typer) (trees_in c.self.inside.kept.tokens) (known g.A.Analyser.items c.self.inside.types) c.in-Some-Some.ensures'.known c.self.invariant.are in
     subst (λ (ts : List Tree). AreOfValues ts → ∥ AreRefused ts (standing (map typer_fault_of c.found.result.faults.now.list.items)) ∥₁) (holds ∙ sym c.in-Some-Some.ensures.tree) c.found.ensures.refused
 
 pub returns-clause-typed : goal.returns-clause-typed
 returns-clause-typed g c =
     let typer = c.in-Some-Some.typer.now in
-    let holds = bound_items (g.A.Analyser.items typer) (trees_in c.self.inside.kept.tokens) (known g.A.Analyser.items c.self.inside.types) c.in-Some-Some.ensures' c.self.invariant.are in
+    let holds = bound_items (g.A.Analyser.items typer) (trees_in c.self.inside.kept.tokens) (known g.A.Analyser.items c.self.inside.types) c.in-Some-Some.ensures'.known c.self.invariant.are in
     subst (λ (ts : List Tree). AreOfValues ts → ∥ AreTyped ts c.found.result ∥₁) (holds ∙ sym c.in-Some-Some.ensures.tree) c.found.ensures.typed

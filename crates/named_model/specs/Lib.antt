@@ -1,0 +1,2 @@
+-- Where names lead.
+pub mod Leading

@@ -1,0 +1,2 @@
+-- How names of the prelude are made, one after the other.
+pub mod Making

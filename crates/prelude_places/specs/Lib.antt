@@ -1,0 +1,2 @@
+-- Names that are defined in the prelude.
+pub mod There
