@@ -9,7 +9,7 @@ ghost use Rattle.std.specs.Prelude.{◌≡◌, ℕ, List, [], ◌+◌, ◌-◌, 
 ghost use Rattle.token_model.specs.Kinds.{Tok};
 ghost use Rattle.token_model.specs.Tokens.{Lex};
 ghost use Rattle.typing_model.specs.Typable.{AreTypable};
-ghost use Rattle.fault_model.specs.Refused.{standing, AreOfValues, AreRefused};
+ghost use Rattle.fault_model.specs.Refused.{AreOfValues, AreRefused};
 ghost use Rattle.syntax_tree.specs.Tallies.{Grows};
 ghost use Rattle.syntax_tree.specs.View.{trees_of};
 ghost use Rattle.analysis_api.specs.Typed.{more_typed, GoesOn, LongestFront, SameFront};
@@ -89,7 +89,7 @@ pub trait Analyser: Drop {
     fn found(&self) -> Analysis<'_>
         ensures found { finds self.now result }
         ensures silent { AreTypable (items self.now) → are_warnings result.faults.now.list.items ≡ true }
-        ensures refused { AreOfValues (items self.now) → ∥ AreRefused (items self.now) (standing (map typer_fault_of result.faults.now.list.items)) ∥₁ }
+        ensures refused { AreOfValues (items self.now) → ∥ AreRefused (items self.now) (map typer_fault_of result.faults.now.list.items) ∥₁ }
         ensures typed { AreOfValues (items self.now) → ∥ AreTyped (items self.now) result ∥₁ }
         ensures settled { is_settled self.now → AreOfValues (items self.now) → ∥ AreSettled (items self.now) result ∥₁ };
 

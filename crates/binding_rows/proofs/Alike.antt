@@ -12,6 +12,7 @@ use Rattle.typing_conditions.specs.Carrying.{Asks, Scope, HoldsWritten, Enters, 
 use Rattle.typing_conditions.proofs.Carried.{Decides}
 use Rattle.typing_conditions.proofs.Stays.{agrees_before, named_before}
 use Rattle.typing_steps.specs.Building.{InEach}
+use Rattle.typing_conditions.proofs.Stops.{stop_here}
 
 -- The conditions may be written in another way that comes to the same in each context of the state before.
 pub carried_alike : {F : Frame} {scope : Scope} {asks others : Asks} {a b : Sight} {G H : Letters} → InEach F scope a G (λ c. asks c ≡ others c) → Carried F scope asks a G b H → Carried F scope others a G b H
@@ -31,6 +32,7 @@ carried_alike {F} {scope} {asks} {others} {a} {b} {G} {H} same p = record {
     | inr short ↦ inr (subst (λ cs. FallsShort (judgements c.kept cs) p.judged) (entered named V c e) short)
   ];
   first = λ named k V c e h. subst (λ cs. Decides c p.judged (take k cs)) (entered named V c e) (p.first named k V c e (subst (λ cs. AllHold c.kept (take k cs)) (sym (entered named V c e)) h));
+  stops = λ k r f kind. stop_here same (p.stops k r f kind);
 }
   where
     entered : HoldsWritten scope b → (V : Types) (c : Context) → Enters F scope a G V c → asks c ≡ others c

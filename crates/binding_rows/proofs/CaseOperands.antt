@@ -31,7 +31,7 @@ pub matches_alone : {a b : Parts} {env : List Entry} {p : Pattern} {names : List
 matches_alone {a} {b} {env} {p} {names} {seen} {then} {m} none h = subst (λ ns. MatchesTo a b env p ns names m) none (subst (λ bs. MatchesTo a b env p seen bs m) (sym h.adds.binds) h.typed)
 
 -- it has the type of what is matched
-pub pattern_matched : (a b d : Parts) (env : List Entry) (o : Numbered) (names : List Bind) (seen then : List Name) (found wanted : ℕ) → seen ≡ [] → (IsCarriedPattern o → Matches a b env (pattern_of a.item o) [] names seen then found) → Goes a b → AsksEqual b d o.at found wanted →
+pub pattern_matched : (a b d : Parts) (env : List Entry) (o : Numbered) (names : List Bind) (seen then : List Name) (found wanted : ℕ) → seen ≡ [] → (IsCarriedPattern o → Matches a b env (pattern_of a.item o) [] names seen then found) → Goes a b → AsksEqual b d env o.at found wanted →
     IsCarriedPattern o → MatchesAs a d env (pattern_of a.item o) names wanted
 pattern_matched a b d env o names seen then found wanted none matched goes asked carried =
     matches_as a b d env (pattern_of a.item o) o.at names found wanted (pattern_of_stands a.item o).where_it_is (matches_alone none (matched carried)) goes asked

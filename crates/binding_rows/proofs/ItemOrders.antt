@@ -1,5 +1,6 @@
 -- What is carried of items, one after the other.
 use Rattle.std.proofs.Common.{◌<◌, ◌≡◌, ◌∙◌, ◌⊎◌, inl, inr, ℕ, zero, suc, ◌+◌, ◌≤◌, true, List, [], ◌∷◌, ◌++◌, take, length, refl, sym, ap, subst, arith, append-nil, false, Some}
+use Rattle.std.specs.Prelude.{slice_get}
 use Rattle.std.proofs.lemmas.List.{take-append-le}
 use Rattle.std.proofs.Math.Seq.{take-append-add}
 use Rattle.type_model.specs.Types.{Typ as type}
@@ -7,10 +8,9 @@ use Rattle.signature_model.specs.Entries.{Environment}
 use Rattle.typing_laws.proofs.Bools.{no_yes}
 use Rattle.typing_model.specs.Demands.{Condition, AllHold, treated}
 use Rattle.typing_model.specs.Contexts.{Choice, Context, under}
-use Rattle.type_nodes.specs.Nodes.{Node, IsNode, IsSound}
+use Rattle.type_nodes.specs.Nodes.{IsSound}
 use Rattle.type_nodes.specs.Readings.{Types, Fits, IsReading}
 use Rattle.level_unify.specs.Solutions.{Loose}
-use Rattle.level_unify.specs.Instances.{is_bound}
 use Rattle.level_unify.proofs.Unified.{fits_loosely}
 use Rattle.env_table.specs.declared.entries.Entry.{Entry}
 use Rattle.typing_conditions.specs.Locals.{IsOwn, Refines, IsContext}
@@ -20,14 +20,13 @@ use Rattle.typing_conditions.specs.Declared.{DeclaredAs, ExceptionAs}
 use Rattle.typing_conditions.specs.Standing.{IsIn, Covers, Stands}
 use Rattle.typing_conditions.proofs.Own.{own_of}
 use Rattle.typing_conditions.proofs.Environments.{env_map}
-use Rattle.typing_conditions.proofs.Steps.{refines_none, refines_then}
-use Rattle.typing_conditions.specs.Sights.{number_in, Scopes, Recorded, Sight, Letters, AreGiven, AreNodes, SameAt}
+use Rattle.typing_conditions.specs.Sights.{number_in, Scopes, Recorded, Sight, Report, Letters}
 use Rattle.typing_conditions.specs.Seeing.{StandsFor, IsSeen}
-use Rattle.typing_conditions.specs.Judging.{Judgement, Meets, starts_known, AllSeen, AnySeen, AreKept, Follows, judgements, StartsWith, FallsShort}
-use Rattle.typing_conditions.specs.Carrying.{Asks, AreHidden}
+use Rattle.typing_conditions.specs.Judging.{Judgement, Meets, TellAll, starts_known, AllSeen, AnySeen, AreKept, Follows, judgements, StartsWith, FallsShort}
+use Rattle.typing_conditions.specs.Carrying.{Asks}
 use Rattle.typing_conditions.specs.Surroundings.{Declared, IsSteady, KnowsNames}
 use Rattle.typing_conditions.proofs.Judged.{starts_both, hold_both, hold_left, hold_right, judged_both, counted_both, kept_left, kept_right, tell_both, follows_both, short_left, short_right, starts_all, starts_left, starts_right, short_of_more, judged_kept, any_seen, seen_both}
-use Rattle.typing_conditions.proofs.Carried.{Decides, hidden_both, take_none, less_or_more}
+use Rattle.typing_conditions.proofs.Carried.{Decides, take_none, less_or_more}
 use Rattle.typing_conditions.proofs.First.{starts_none}
 use Rattle.typing_conditions.proofs.Surrounding.{vars_apart}
 use Rattle.typing_model.specs.Parts.{Item, Seen, no_names, seen_too}
@@ -37,65 +36,14 @@ use Rattle.typing_steps.specs.States.{sight}
 use Rattle.typing_steps.specs.Constants.{HasConstants}
 use Rattle.typing_rows.specs.Noted.{AreNoted}
 use Rattle.binding_rows.specs.ItemRows.{AreOwned, none_owned, leaves_none, leaves_types, leaves_one, ItemDone, ItemsDone, recorded_idle}
-use Rattle.binding_rows.specs.Outside.{Lasts, AgreesOutside, AreMet, InEachMet, Outside, Left, letters_left, AreLeft, EntersItems, ReadsItems, ContinuesItems, StaysOutside, OnlyBetween, ItemsCarried, SeesItems, AreDecided}
+use Rattle.typing_conditions.proofs.Stops.{get_cases, treated_silent}
+use Rattle.binding_rows.specs.Stopped.{StopsItems}
+use Rattle.binding_rows.proofs.ItemStops.{item_stop_first, item_stop_then, item_stop_between, item_stop_as, item_stop_cons}
+use Rattle.binding_rows.proofs.ItemsLeft.{left_earlier, left_first, left_second, stays_both, letters_both, left_both, decided_both, IsNext}
+pub use Rattle.binding_rows.proofs.ItemsLeft.{agrees_earlier, stays_between, append_assoc}
+use Rattle.binding_rows.specs.Outside.{Lasts, AgreesOutside, AreMet, InEachMet, Outside, Left, letters_left, EntersItems, ReadsItems, ContinuesItems, StaysOutside, OnlyBetween, ItemsCarried, SeesItems}
 use Rattle.typing_conditions.specs.Hiding.{Keeps, HasCopy, NoneDoubtful, Settles}
-use Rattle.typing_conditions.proofs.Hiding.{none_doubtful, none_both, placed_before, copy_itself, copy_of, copy_first, copy_second, keeps_same, keeps_as, keeps_both, settles_none, settles_both, settles_as}
-
--- what agrees with a state agreed before
-pub agrees_earlier : {a b : Sight} {G H : Letters} {V : Types} {ch : Choice} → StaysOutside a G b H → AgreesOutside b H V ch → AgreesOutside a G V ch
-agrees_earlier {V = V} {ch = ch} s g = record { recorded = λ i p m e. g.recorded i p m (s.recorded i p m e); known = λ i p m e. g.known i p m (s.recorded i p m e); given = s.given V ch g.given }
-
--- what items left is left where no more is bound
-left_earlier : (old new : List Node) (ls : List Left) (V : Types) (ch : Choice) → ((v : ℕ) → is_bound old v ≡ true → is_bound new v ≡ true) → AreLeft new ls V ch → AreLeft old ls V ch
-left_earlier old new [] V ch bounds h = tt
-left_earlier old new (l ∷ ls) V ch bounds h = (record { letters = h.0.letters; written = h.0.written; others = λ k x e f v b. h.0.others k x e f v (bounds v b); fixed = h.0.fixed }, left_earlier old new ls V ch bounds h.1)
-
-left_first : (nodes : List Node) (ls ms : List Left) (V : Types) (ch : Choice) → AreLeft nodes (ls ++ ms) V ch → AreLeft nodes ls V ch
-left_first nodes [] ms V ch h = tt
-left_first nodes (l ∷ ls) ms V ch h = (h.0, left_first nodes ls ms V ch h.1)
-
-left_second : (nodes : List Node) (ls ms : List Left) (V : Types) (ch : Choice) → AreLeft nodes (ls ++ ms) V ch → AreLeft nodes ms V ch
-left_second nodes [] ms V ch h = h
-left_second nodes (l ∷ ls) ms V ch h = left_second nodes ls ms V ch h.1
-
-pub append_assoc : {A : Type 0} (xs ys zs : List A) → (xs ++ ys) ++ zs ≡ xs ++ (ys ++ zs)
-append_assoc [] ys zs = refl
-append_assoc (x ∷ xs) ys zs = ap (λ us. x ∷ us) (append_assoc xs ys zs)
-
-stays_both : {a b c : Sight} {G H K : Letters} → IsSound a.nodes → StaysOutside a G b H → StaysOutside b H c K → StaysOutside a G c K
-stays_both {a} {b} {c} sound p q = record {
-  sound = λ s. q.sound (p.sound s);
-  loose = λ V h. p.loose V (q.loose V h);
-  reads = λ V h. p.reads V (q.reads V h);
-  refines = λ M own. let mid = own_of b.nodes (p.sound sound) in refines_then a.nodes b.nodes c.nodes mid.0 M mid.1 own (p.refines mid.0 mid.1) (q.refines M own);
-  bounds = λ v h. q.bounds v (p.bounds v h);
-  recorded = λ i k m e. q.recorded i k m (p.recorded i k m e);
-  keeps = keeps_both p.keeps q.keeps;
-  given = λ V ch h. p.given V ch (q.given V ch h);
-  inside = λ i. q.inside (p.inside i);
-  aloud = q.aloud ∙ p.aloud;
-  level = q.level ∙ p.level;
-  fixed = q.fixed ∙ p.fixed;
-}
-
--- what several items left is what they left together
-letters_both : (ls ms : List Left) → letters_left (ls ++ ms) ≡ letters_left ls ++ letters_left ms
-letters_both [] ms = refl
-letters_both (l ∷ ls) ms = ap (λ xs. l.letters ++ xs) (letters_both ls ms) ∙ sym (append_assoc l.letters (letters_left ls) (letters_left ms))
-
--- the letters that items left have their types further on, and so have those of the next ones
-left_both : (ls ms : List Left) (nodes : List Node) (c : Sight) (ch : Choice) (V W : Types) → length nodes ≤ length c.nodes → SameAt nodes V W → AreNodes (letters_left ls) nodes × AreGiven (letters_left ls) V ch → AreHidden (letters_left ms) c W ch → AreHidden (letters_left (ls ++ ms)) c W ch
-left_both ls ms nodes c ch V W longer same p q = subst (λ xs. AreHidden xs c W ch) (sym (letters_both ls ms)) (hidden_both (letters_left ls) (letters_left ms) nodes c ch V W longer same p q)
-
--- a choice that has the types that several items decide has them together
-decided_both : (ls ms : List Left) (ch : Choice) → AreDecided ls ch → AreDecided ms ch → AreDecided (ls ++ ms) ch
-decided_both [] ms ch p q = q
-decided_both (l ∷ ls) ms ch p q = (p.0, decided_both ls ms ch p.1 q)
-
--- Items after others: what is asked next is what is asked in the context with the environment after those before, wherever what these ask is met as it was judged.
-pub record IsNext (E : Choice → Environment) (rest further : Asks) (after : Context → Environment) (x : Context) : Type 0 where
-  pub env : after x ≡ E x.chosen
-  pub asks : rest x ≡ further (under (after x) x)
+use Rattle.typing_conditions.proofs.Hiding.{none_doubtful, none_both, placed_before, copy_itself, copy_of, copy_first, copy_second, keeps_same, keeps_both, settles_none, settles_both, settles_as}
 
 -- Items after others are carried where they are what is asked next.
 pub items_trans : {E E' : Choice → Environment} {asks rest further : Asks} {a b c : Sight} {G H K : Letters} (after : Context → Environment) (p : ItemsCarried E asks a G b H) → InEachMet E asks b H p.judged (IsNext E' rest further after) → IsSound a.nodes → ItemsCarried E' further b H c K →
@@ -216,24 +164,7 @@ items_trans {E} {E'} {asks} {rest} {further} {a} {b} {c} {G} {H} {K} after p nex
           | inr short ↦ inr (falls_first x (take n (rest x)) short)
         ])
 
--- between items nothing changes that the definitions ask of
-pub stays_between : {a b : Sight} {G : Letters} → OnlyBetween a b → StaysOutside a G b G
-stays_between {a} {b} {G} only = record {
-  sound = λ s. subst IsSound (sym only.nodes) s;
-  loose = λ V h. subst (λ ns. Loose ns V) only.nodes h;
-  reads = λ V h. subst (λ ns. IsReading ns V) only.nodes h;
-  refines = λ M own. subst (λ ns. Refines ns b.nodes M) only.nodes (refines_none b.nodes M own);
-  bounds = λ v h. subst (λ ns. is_bound ns v ≡ true) (sym only.nodes) h;
-  recorded = λ i k m e. only.types i k ∙ e;
-  keeps = keeps_as only.noted only.scopes only.types;
-  given = λ V ch h. h;
-  inside = λ i. record { recorded = λ j k m e. subst (λ ns. IsNode ns m) (sym only.nodes) (i.recorded j k m (sym (only.types j k) ∙ e)); given = subst (AreNodes G) (sym only.nodes) i.given };
-  aloud = only.aloud;
-  level = only.level;
-  fixed = only.fixed;
-}
-
--- and nothing is asked
+-- between items nothing is asked
 pub items_between : {E : Choice → Environment} {a b : Sight} {G : Letters} → OnlyBetween a b → ItemsCarried E (λ c. []) a G b G
 items_between {E} {a} {b} {G} only = record {
   stays = stays_between only;
@@ -258,8 +189,8 @@ items_between {E} {a} {b} {G} only = record {
   first = λ k V c e h. inl (subst (λ cs. StartsWith [] (judgements c.kept cs)) (sym (take_none k)) (starts_all []));
 }
 
--- between items, and then the next ones
-items_then : {E : Choice → Environment} {asks : Asks} {a b c : Sight} {G H : Letters} → OnlyBetween a b → ItemsCarried E asks b G c H → ItemsCarried E asks a G c H
+-- Between items, and then the next ones.
+pub items_then : {E : Choice → Environment} {asks : Asks} {a b c : Sight} {G H : Letters} → OnlyBetween a b → ItemsCarried E asks b G c H → ItemsCarried E asks a G c H
 items_then {E} {asks} {a} {b} {c} {G} {H} only p = record {
   stays = record {
     sound = λ s. p.stays.sound (start.sound s);
@@ -353,6 +284,41 @@ sees_trans {E} {E'} {asks} {rest} {further} {a} {b} {c} {G} {H} {K} after p next
     } in
     let starts = ap starts_known comes.asks ∙ (q.sound V (under (after x) x) here).starts in
     seen_both (IsSeen scopes types V) (asks x) (rest x) starts (first V x earlier scopes types (lasts_before q.stays.keeps inside)) (subst (AllSeen (IsSeen scopes types V)) (sym comes.asks) (second V (under (after x) x) here scopes types inside))
+
+-- Where items stop is where they stop however their conditions are written.
+pub stops_as : {E : Choice → Environment} {asks others : Asks} {a b : Sight} {G H : Letters} (same : (x : Context) → asks x ≡ others x) (p : ItemsCarried E asks a G b H) → StopsItems E asks a G b H p.left p.judged p.told → StopsItems E others a G b H (items_as same p).left (items_as same p).judged (items_as same p).told
+unfolding items_as
+stops_as same p stops V c l k r e kind = item_stop_as same (stops V c l k r e kind)
+
+-- and where they start after nothing else than what changes between items
+pub stops_between : {E : Choice → Environment} {asks : Asks} {a b c : Sight} {G H : Letters} (only : OnlyBetween a b) (p : ItemsCarried E asks b G c H) → StopsItems E asks b G c H p.left p.judged p.told → StopsItems E asks a G c H (items_then only p).left (items_then only p).judged (items_then only p).told
+unfolding items_then
+stops_between only p stops V c l k r e kind = item_stop_between only (stops V c l k r e kind)
+
+-- Where items stop and those after them, all stop.
+pub stops_trans : {E E' : Choice → Environment} {asks rest further : Asks} {a b c : Sight} {G H K : Letters} (after : Context → Environment) (p : ItemsCarried E asks a G b H) (next : InEachMet E asks b H p.judged (IsNext E' rest further after)) (sound : IsSound a.nodes) (q : ItemsCarried E' further b H c K) →
+    StopsItems E asks a G b H p.left p.judged p.told → StopsItems E' further b H c K q.left q.judged q.told → StopsItems E (λ x. asks x ++ rest x) a G c K (items_trans after p next sound q).left (items_trans after p next sound q).judged (items_trans after p next sound q).told
+unfolding items_trans
+stops_trans {E} {E'} {asks} {rest} {further} {a} {b} {c} {G} {H} {K} after p next sound q first second V x l k r e kind =
+    let earlier : ReadsItems E b H p.left p.judged V x = record {
+      env = l.env;
+      reads = q.stays.reads V l.reads;
+      agrees = agrees_earlier q.stays l.agrees;
+      left_too = left_earlier b.nodes c.nodes p.left V x.chosen q.stays.bounds (left_first c.nodes p.left q.left V x.chosen l.left_too);
+      kept = kept_left x.kept p.judged q.judged l.kept;
+    } in
+    let comes = next V x l.env (q.stays.loose V (fits_loosely c.nodes V l.reads.fits)) (agrees_earlier q.stays l.agrees) (record { kept = earlier.kept; holds = (p.sound V x earlier).holds }) in
+    let here : ReadsItems E' c K q.left q.judged V (under (after x) x) = record {
+      env = comes.env;
+      reads = l.reads;
+      agrees = l.agrees;
+      left_too = left_second c.nodes p.left q.left V x.chosen l.left_too;
+      kept = kept_right x.kept p.judged q.judged l.kept;
+    } in
+    elim (get_cases p.told q.told k r e) [
+      | inl f ↦ item_stop_first rest q.left q.judged p (p.stays.sound sound) q.stays (first V x earlier k r f kind)
+      | inr (j, _, f) ↦ item_stop_then after q.left q.judged p next sound (second V (under (after x) x) here j r f kind)
+    ]
 
 -- What an item asks before the items inside it, and what these ask: it is carried, and where it is met, so is what the items inside ask.
 pub record Inside (E : Choice → Environment) (asks inner : Asks) (a d : Sight) (G H : Letters) (judged : List Judgement) : Type 0 where
@@ -478,6 +444,16 @@ treated_sees {env = env} n i k number here at p sees V c l scopes types inside =
   sees V c l scopes types inside,
 )
 
+-- What reports nothing where it is met stops nowhere.
+pub silent_stops : {E : Choice → Environment} {asks : Asks} {a b : Sight} {G H : Letters} (p : ItemsCarried E asks a G b H) → ((c : Context) (told : List Report) → TellAll c.kept (asks c) told → told ≡ []) → StopsItems E asks a G b H p.left p.judged p.told
+silent_stops p none V c l k r e kind = absurd (let f : slice_get [] k ≡ Some r = subst (λ told. slice_get told k ≡ Some r) (none c p.told (p.sound V c l).tells) e in cc)
+
+-- And where they stop they do so where it is said before that a node is treated.
+pub treated_stops : {E : Choice → Environment} {asks : Asks} {a b : Sight} {G H : Letters} (n : ℕ) (p : ItemsCarried E asks a G b H) → StopsItems E asks a G b H p.left p.judged p.told →
+    StopsItems E (λ c. treated n c.env ∷ [] ++ asks c) a G b H (items_treated n p).left (items_treated n p).judged (items_treated n p).told
+unfolding items_treated
+treated_stops n p stops V c l k r e kind = item_stop_cons (λ c. treated n c.env) (treated_silent n) (stops V c (record { env = l.env; reads = l.reads; agrees = l.agrees; left_too = l.left_too; kept = l.kept }) k r e kind)
+
 -- of no items nothing is asked
 pub items_none : {E : Choice → Environment} {a : Sight} {G : Letters} (seen : Seen) → ItemsCarried E (λ c. items_ask c seen []) a G a G
 items_none seen = items_between (record { nodes = refl; types = λ i p. refl; noted = λ i p h. h; scopes = λ i p env h. h; reports = refl; aloud = refl; level = refl; fixed = refl })
@@ -501,6 +477,7 @@ done_between only done = record {
   owners = done.owners;
   clear = done.clear;
   sees = done.sees;
+  stops = λ k. stops_between only done.carried (done.stops k);
   outside = done.outside;
   knows = done.knows;
   noted = done.noted;
@@ -519,6 +496,7 @@ idle_done {E = E} {G = G} n i p number here seen only at constants noted known =
   owners = leaves_none none_owned;
   clear = λ k placed. none_doubtful;
   sees = λ k. treated_sees n i p number here at (items_between only) (λ V c l scopes types inside. tt);
+  stops = λ k. treated_stops n (items_between only) (λ V c l j r e kind. absurd (cc));
   outside = outside_between only at;
   knows = known;
   noted = noted;
@@ -537,6 +515,7 @@ done_none {E = E} {G = G} seen only at constants noted known = record {
   owners = none_owned;
   clear = λ k placed. none_doubtful;
   sees = λ k V c l scopes types inside. tt;
+  stops = λ k V c l j r e kind. absurd (cc);
   outside = outside_between only at;
   knows = known;
   noted = noted;
@@ -555,6 +534,7 @@ done_here {E = E} {G = G} seen at constants noted known = record {
   owners = none_owned;
   clear = λ k placed. none_doubtful;
   sees = λ k V c l scopes types inside. tt;
+  stops = λ k V c l j r e kind. absurd (cc);
   outside = at;
   knows = known;
   noted = noted;
@@ -572,6 +552,7 @@ weaker follows done = record {
   owners = done.owners;
   clear = λ l. done.clear (follows l);
   sees = λ l. done.sees (follows l);
+  stops = λ l. done.stops (follows l);
   outside = done.outside;
   knows = λ l. done.knows (follows l);
   noted = done.noted;
@@ -590,6 +571,7 @@ done_one {m = m} {seen = seen} done = record {
   owners = done.owners;
   clear = done.clear;
   sees = λ k. sees_as (λ x. sym (append-nil (m.asks x seen))) done.carried (done.sees k);
+  stops = λ k. stops_as (λ x. sym (append-nil (m.asks x seen))) done.carried (done.stops k);
   outside = done.outside;
   knows = done.knows;
   noted = done.noted;
@@ -659,6 +641,7 @@ done_then {E = E} {ms = ms} {ns = ns} {seen = seen} {names = names} sound p q fi
   owners = owned_both p.owners q.owners;
   clear = λ m placed. subst NoneDoubtful (sym (letters_both p.carried.left q.carried.left)) (none_both (letters_left p.carried.left) (letters_left q.carried.left) (p.clear (first m) (placed_before q.carried.stays.keeps placed)) (q.clear (second m) placed));
   sees = λ m. sees_as (λ x. asked_both x seen ms ns) (items_trans (λ x. behind_items x ms) p.carried (asked_next p ns) sound q.carried) (sees_trans (λ x. behind_items x ms) p.carried (asked_next p ns) sound q.carried (p.sees (first m)) (q.sees (second m)));
+  stops = λ m. stops_as (λ x. asked_both x seen ms ns) (items_trans (λ x. behind_items x ms) p.carried (asked_next p ns) sound q.carried) (stops_trans (λ x. behind_items x ms) p.carried (asked_next p ns) sound q.carried (p.stops (first m)) (q.stops (second m)));
   outside = q.outside;
   knows = λ m. q.knows (second m);
   noted = q.noted;

@@ -56,9 +56,9 @@ use Rattle.binding_rows.proofs.Scoped.{scopes_carried, inside_carried, scoped_le
 use Rattle.typing_rows.specs.Noted.{AreNoted}
 use Rattle.typing_rows.proofs.Noted.{noted_on}
 use Rattle.binding_rows.proofs.ItemClosing.{item_letters, item_typed, item_bound}
-use Rattle.binding_rows.proofs.Items.{among_group, item_stays, item_carried, item_clear, item_sees, item_owned}
+use Rattle.binding_rows.proofs.Items.{among_group, item_stays, item_carried, item_clear, item_sees, item_stops, item_owned}
 use Rattle.binding_rows.proofs.ItemsAfter.{outside_after, after_older, after_known}
-use Rattle.binding_rows.proofs.ItemOrders.{agrees_earlier, items_treated, treated_owned, treated_clear, treated_sees, outside_between, done_between}
+use Rattle.binding_rows.proofs.ItemOrders.{agrees_earlier, items_treated, treated_owned, treated_clear, treated_sees, treated_stops, outside_between, done_between}
 use Rattle.binding_rows.proofs.ItemTurns.{item_begins}
 use Rattle.binding_rows.proofs.Unwritten.{names_unwritten}
 use Rattle.binding_rows.proofs.Lets.{entries_same, held_chosen, level_raised, only_raised}
@@ -145,6 +145,7 @@ item_row_of_node x d env after n t ts G E seen node h aloud at constants noted h
   owners = treated_owned (number_of x.item n) (item_carried group) (item_owned group (recorded_let x.item ts n t) refl);
   clear = λ known placed. treated_clear (number_of x.item n) (item_carried group) (item_clear group known placed);
   sees = λ known. treated_sees (number_of x.item n) x.item n refl ((item_stays group).keeps.scopes x.item n env here) at (item_carried group) (item_sees group);
+  stops = λ known. treated_stops (number_of x.item n) (item_carried group) (item_stops group);
   outside = outside_after group (names_unwritten x.item (operands_in n t 2));
   knows = λ known. after_known group (names_unwritten x.item (operands_in n t 2)) ∙ known;
   noted = subst (λ U. AreNoted U d) (sym (after_older group (names_unwritten x.item (operands_in n t 2)))) (noted_on at.older noted h.goes);

@@ -28,7 +28,7 @@ use Rattle.typing_conditions.specs.Sights.{Sight, Letters, Agrees}
 use Rattle.typing_conditions.specs.Frames.{Frame, IsWritten, IsOpen, inner_frame, GoesIn}
 use Rattle.typing_conditions.specs.Meanings.{AllMean}
 use Rattle.typing_conditions.specs.Steps.{OnlyLevel}
-use Rattle.typing_conditions.specs.Carrying.{Asks, Scope, HoldsWritten, IsUnder, Carried, CarriedTo}
+use Rattle.typing_conditions.specs.Carrying.{Asks, Scope, HoldsWritten, IsUnder, Carried, CarriedTo, without_values}
 use Rattle.typing_conditions.specs.Surroundings.{Declared, Surrounds, context_of, with_closed}
 use Rattle.typing_conditions.specs.Hiding.{AreDone}
 use Rattle.typing_conditions.proofs.Carried.{carried_trans, carried_as, carried_under, done_then, done_as}
@@ -52,6 +52,8 @@ use Rattle.binding_rows.proofs.Limits.{LimitsCarried}
 use Rattle.binding_rows.proofs.Closing.{limited_state, limits_asked, closed_out}
 use Rattle.binding_rows.proofs.Held.{limited_means, held_same, to_close_on, all_names_bound, bound_open, closed_names, limit_shares, limited_open, open_root, fixed_held, fixed_roots, named_occurs, named_none, nodes_none, occurs_first, occurs_second, occurs_neither, written_there, there_written}
 use Rattle.binding_rows.proofs.Starting.{in_either, in_first, in_second}
+use Rattle.typing_conditions.proofs.Stops.{around_values}
+use Rattle.binding_rows.proofs.Scopes.{only_values}
 
 -- a node of three lists is of one of them
 in_one : (ms ns ks : List ℕ) (n : ℕ) → IsIn (together ms ns ks) n → IsIn ms n ⊎ (IsIn ns n ⊎ IsIn ks n)
@@ -286,7 +288,8 @@ module _ {D : Declared} {F : Frame} {scope : Scope} {asks : Asks} {x y : Sight} 
       let r = body surrounds_body in
       record {
         carried = carried_trans group_closed (carried_alike (λ V c loose u g named. let h = body_under V c loose u g named in ap body_asks (λ i. record c { env = sym h.env i; variables = sym h.variables i; held = sym h.held i }))
-            (carried_under body_context refl (λ c. (refl, refl)) (λ c u. record { env = refl; variables = refl; held = refl }) r.carried));
+            (carried_under body_context refl (λ c. (refl, refl)) (λ c u. record { env = refl; variables = refl; held = refl })
+            (around_values scope (with_closed (names_of_group xs) types scope) body_context body_asks refl (λ c u. only_values (generalised_in (scope.env c.chosen) (types c.chosen)) (context_of c.chosen) (names_of_group xs) (scope.env c.chosen) ∙ ap without_values (sym u.env))) r.carried));
         means = r.means;
       }
 
@@ -322,7 +325,7 @@ level_raised x y e = ap (λ (p : Parts). p.level) e ∙ (let s : x.level + 1 ≡
 -- The row of the code's `let`: the level is raised, below which there is one more, the group is typed and closed, and then the body is typed among its names.
 pub let_row : {x y a d : Parts} (f : Parts) {env : List Entry} {xs : List Binding} {ys : List ToClose} {limits : List Limit} {m : ℕ} (n : ℕ) (at : Place) (is_rec : Bool) (e : Expression) → y ≡ record x { level = x.level + 1 } → x.level + 1 < bound_level → TypesToClose y a env (λ c. bindings_ask c is_rec xs) xs ys →
     limit_nodes limits ≡ limited_nodes ys → ClosesGroup a d limits (bind_nodes (names_closed ys)) → d.telling ≡ x.telling → TypesTo d f (added (bind_entries (names_closed ys)) env) e.typed (λ ch. ch.type_at e.node) m → TypesRow x f env (let_expression n at is_rec xs e).typed n m
-let_row {x} {y} f {xs = xs} {ys = ys} n at is_rec e raised below group_types nodes close same body = λ aloud F scope G s.
+let_row {x} {y} f {xs = xs} {ys = ys} n at is_rec e raised below group_types nodes close same body = λ aloud F scope G its s.
     let_typed n at is_rec e (record {
       at = s;
       only = only_raised x y raised;

@@ -23,8 +23,10 @@ pub mod LetNodes
 pub mod Scoped
 pub mod Starting
 pub mod ItemClosing
+pub mod ItemsLeft
 pub mod Items
 pub mod ItemsAfter
+pub mod ItemStops
 pub mod ItemOrders
 pub mod ItemRows
 pub mod ItemTurns

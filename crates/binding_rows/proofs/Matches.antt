@@ -54,9 +54,9 @@ cases_own {b = b} {n = n} y k = subst (Owns n k b y.typed.carried.hidden) (appen
 -- match e with p -> e
 pub match_typed : (a b d : Parts) (env : List Entry) (n : ℕ) (at : Place) (e : Expression) (xs : List Case) (ty m : ℕ) → TypesTo a b env (λ c. e.typed c) (λ ch. ch.type_at e.node) ty → Goes a b → TypesCases b d env xs ty None m →
     TypesRow a d env (λ c. (match_expression n at e xs).typed c) n m
-match_typed a b d env n at e xs ty m first goes cases = λ aloud F scope G s.
+match_typed a b d env n at e xs ty m first goes cases = λ aloud F scope G its s.
     let x = first aloud F scope G s in
-    let y = cases (ap is_aloud goes.telling ∙ aloud) F scope G n (λ ch. ch.type_at e.node) None (surrounds_on x.carried.stays s) x.means tt in
+    let y = cases (ap is_aloud goes.telling ∙ aloud) F scope G n (λ ch. ch.type_at e.node) None its (surrounds_on x.carried.stays s) x.means tt in
     record {
       own = y.own;
       type = result_type n (bodies_type None xs);
@@ -71,10 +71,10 @@ match_typed a b d env n at e xs ty m first goes cases = λ aloud F scope G s.
 -- try e with p -> e
 pub try_typed : (a b d : Parts) (env : List Entry) (n : ℕ) (at : Place) (e : Expression) (xs : List Case) (ty m : ℕ) → TypesTo a b env (λ c. e.typed c) (λ ch. ch.type_at e.node) ty → Goes a b → TypesCases b d env xs b.constants.exn.0 (Some ty) m →
     TypesRow a d env (λ c. (try_expression n at e xs).typed c) n m
-try_typed a b d env n at e xs ty m first goes cases = λ aloud F scope G s.
+try_typed a b d env n at e xs ty m first goes cases = λ aloud F scope G its s.
     let x = first aloud F scope G s in
     let here = surrounds_on x.carried.stays s in
-    let y = cases (ap is_aloud goes.telling ∙ aloud) F scope G n (λ ch. exn_type) (Some (λ ch. ch.type_at e.node)) here (means_more here.fixed.exn) x.means in
+    let y = cases (ap is_aloud goes.telling ∙ aloud) F scope G n (λ ch. exn_type) (Some (λ ch. ch.type_at e.node)) its here (means_more here.fixed.exn) x.means in
     record {
       own = y.own;
       type = λ ch. ch.type_at e.node;
@@ -89,10 +89,10 @@ try_typed a b d env n at e xs ty m first goes cases = λ aloud F scope G s.
 -- function p -> e
 pub function_typed : (a b d f : Parts) (env : List Entry) (n : ℕ) (at : Place) (xs : List Case) (from to m : ℕ) → TypesAny a b from → Goes a b → TypesCases b d env xs from None to → (IsNode d.store.nodes from → IsNode d.store.nodes to → Makes d.store f.store m (Arrow from to)) →
     OnlyStore d f → TypesRow a f env (λ c. (function_expression n at xs).typed c) n m
-function_typed a b d f env n at xs from to m any goes cases made rest = λ aloud F scope G s.
+function_typed a b d f env n at xs from to m any goes cases made rest = λ aloud F scope G its s.
     let whole = λ (ch : Choice). type.Arrow (ch.letter n 0) (result_type n (bodies_type None xs) ch) in
     let x = any F scope G (letter n 0) (λ t. tt) s.reached in
-    let y = cases (ap is_aloud goes.telling ∙ aloud) F scope ((letter n 0, from) ∷ G) n (λ ch. ch.letter n 0) None (surrounds_on x.carried.stays s) x.means tt in
+    let y = cases (ap is_aloud goes.telling ∙ aloud) F scope ((letter n 0, from) ∷ G) n (λ ch. ch.letter n 0) None its (surrounds_on x.carried.stays s) x.means tt in
     let z = arrow_over d f {scope = scope} (means_on y.typed.carried.stays x.means) y.typed.means made rest in
     let same = sym (append_assoc y.own ((letter n 0, from) ∷ []) G) in
     let front = carried_trans x.carried y.typed.carried in

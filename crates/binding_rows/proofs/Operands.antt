@@ -47,18 +47,18 @@ pub annotation_there : (a b : Parts) (env : List Entry) (o : Numbered) (m : ℕ)
 annotation_there a b env o m read = λ carried. annotation_some a b env (type_of a.item o) m (read carried)
 
 -- the type of a binding without a written type
-pub whole_of_body : (a b : Parts) (o : Numbered) (ms : List ℕ) (right m : ℕ) → MakesArrows a b ms right m → MakesWholeOf a b o None ms right m
-whole_of_body a b o ms right m made = whole_plain a b (expression_of a.item o) ms right m made
+pub whole_of_body : (a b : Parts) (env : List Entry) (o : Numbered) (ms : List ℕ) (right m : ℕ) → MakesArrows a b ms right m → MakesWholeOf a b env o None ms right m
+whole_of_body a b env o ms right m made = whole_plain a b env (expression_of a.item o) ms right m made
 
 -- and with one
-pub whole_of_written : (a b d : Parts) (o : Numbered) (written : ℕ) (ms : List ℕ) (right m : ℕ) → AsksEqual a b o.at right written → MakesArrows b d ms written m → MakesWholeOf a d o (Some written) ms right m
-whole_of_written a b d o written ms right m asked made = whole_written a b d (expression_of a.item o) o.at written ms right m (expression_of_stands a.item o).where_it_is asked made
+pub whole_of_written : (a b d : Parts) (env : List Entry) (o : Numbered) (written : ℕ) (ms : List ℕ) (right m : ℕ) → AsksEqual a b env o.at right written → MakesArrows b d ms written m → MakesWholeOf a d env o (Some written) ms right m
+whole_of_written a b d env o written ms right m asked made = whole_written a b d env (expression_of a.item o) o.at written ms right m (expression_of_stands a.item o).where_it_is asked made
 
 -- the body of a right side
 pub body_of_operand : (a b d : Parts) (env : List Entry) (o : Numbered) (written : Option ℕ) (ms : List ℕ) (right m : ℕ) →
-    (IsCarried o → TypesTo a b env (λ c. (expression_of a.item o).typed c) (λ ch. ch.type_at (expression_of a.item o).node) right) → Goes a b → MakesWholeOf b d o written ms right m → TypesRightBodyOf a d env o written ms right m
+    (IsCarried o → TypesTo a b env (λ c. (expression_of a.item o).typed c) (λ ch. ch.type_at (expression_of a.item o).node) right) → Goes a b → MakesWholeOf b d env o written ms right m → TypesRightBodyOf a d env o written ms right m
 body_of_operand a b d env o written ms right m typed goes made = λ carried.
-    body_typed a b d env (expression_of a.item o) written ms right m (typed carried) goes (subst (λ i. MakesWhole b d (expression_of i o) written ms right m) goes.item made)
+    body_typed a b d env (expression_of a.item o) written ms right m (typed carried) goes (subst (λ i. MakesWhole b d env (expression_of i o) written ms right m) goes.item made)
 
 -- A right side by its operands.
 pub right_of_operands : (a b d f : Parts) (env within : List Entry) (os : List Numbered) (w : Option Numbered) (o : Numbered) (ms : List ℕ) (written : Option ℕ) (right m : ℕ) →
@@ -82,8 +82,8 @@ right_node_recorded a b d env n t right m noted rest goes typed = λ carried.
     right_recorded a b d env n (binding_over a.item n t) right m refl noted rest goes (subst (λ i. TypesRight b d env (λ c. right_side c (binding_over i n t)) (binding_over i n t) right m) goes.item (typed carried))
 
 -- the demand on a pattern, and the warnings of it
-pub whole_of_pattern : (a b d : Parts) (o : Numbered) (found whole : ℕ) → AsksEqual a b o.at found whole → OnlyWarnings b d → AsksWholeOf a d o found whole
-whole_of_pattern a b d o found whole asked warned = whole_asked a b d (pattern_of a.item o) o.at found whole (pattern_of_stands a.item o).where_it_is asked warned
+pub whole_of_pattern : (a b d : Parts) (env : List Entry) (o : Numbered) (found whole : ℕ) → AsksEqual a b env o.at found whole → OnlyWarnings b d → AsksWholeOf a d env o found whole
+whole_of_pattern a b d env o found whole asked warned = whole_asked a b d env (pattern_of a.item o) o.at found whole (pattern_of_stands a.item o).where_it_is asked warned
 
 -- a pattern that starts without names
 matches_named : {a b : Parts} {env : List Entry} {p : Pattern} {names : List Bind} {seen then : List Name} {m : ℕ} → Matches a b env p [] names seen then m → MatchesTo a b env p seen names m
@@ -91,13 +91,13 @@ matches_named {a} {b} {env} {p} {names} {seen} {then} {m} h = subst (λ bs. Matc
 
 -- A binding without `rec`, by its node.
 pub turn_of_node : (a b d e : Parts) (env : List Entry) (n : ℕ) (t : Tree) (seen then : List Name) (names : List Bind) (right whole found : ℕ) → RecordsRightNode a b env n t right whole → Goes a b →
-    (IsCarriedPattern (filled_in n t 0) → Matches b d env (pattern_of b.item (filled_in n t 0)) [] names seen then found) → Goes b d → AsksWholeOf d e (filled_in n t 0) found whole →
+    (IsCarriedPattern (filled_in n t 0) → Matches b d env (pattern_of b.item (filled_in n t 0)) [] names seen then found) → Goes b d → AsksWholeOf d e env (filled_in n t 0) found whole →
     TypesTurnNode a e env n t seen then (record { names = names; right = right })
 turn_of_node a b d e env n t seen then names right whole found typed goes matched goes' asked = λ carried.
     let o = filled_in n t 0 in
     let x = binding_over a.item n t in
     let h = subst (λ i. Matches b d env (pattern_of i o) [] names seen then found) goes.item (matched carried.pattern) in
-    let k = subst (λ i. AsksWhole d e (pattern_of i o) found whole) (goes'.item ∙ goes.item) asked in
+    let k = subst (λ i. AsksWhole d e env (pattern_of i o) found whole) (goes'.item ∙ goes.item) asked in
     record { sees = h.adds.sees; typed = turn_typed a b d e env x seen names right whole found (typed carried) goes (matches_named h) goes' k }
 
 -- what is missing is no binding
@@ -141,10 +141,10 @@ open_there a b d env o nd seen then names found ys zs there grown noted rest goe
     (record { one = record { node = found; names = names }; adds = grown; sees = h.adds.sees; opened = open_typed a b d env o.number x seen names found refl noted rest goes (matches_named h) })
 
 -- the right side of a node whose pattern is typed
-pub conclusion_of_node : (a b d : Parts) (env : List Entry) (n : ℕ) (t : Tree) (o : OpenedBinding) (right whole : ℕ) → TypesRightNode a b env n t right whole → Goes a b → AsksWholeOf b d (filled_in n t 0) o.node whole →
+pub conclusion_of_node : (a b d : Parts) (env : List Entry) (n : ℕ) (t : Tree) (o : OpenedBinding) (right whole : ℕ) → TypesRightNode a b env n t right whole → Goes a b → AsksWholeOf b d env (filled_in n t 0) o.node whole →
     ConcludesNode a d env n t o (record { names = o.names; right = right })
 conclusion_of_node a b d env n t o right whole typed goes asked = λ carried.
-    conclusion_typed a b d env (binding_over a.item n t) o right whole (typed carried) goes (subst (λ i. AsksWhole b d (pattern_of i (filled_in n t 0)) o.node whole) goes.item asked)
+    conclusion_typed a b d env (binding_over a.item n t) o right whole (typed carried) goes (subst (λ i. AsksWhole b d env (pattern_of i (filled_in n t 0)) o.node whole) goes.item asked)
 
 -- no right side yet
 pub concludes_start : (a : Parts) (env : List Entry) (all : List NumberedNode) (os : List OpenedBinding) (ys : List TypedBinding) → ys ≡ [] → All IsNumberedBinding all → ConcludesNodesFirst a a env all all os os ys

@@ -28,7 +28,7 @@ use Rattle.std.specs.Prelude.{slice_get}
 
 -- no case yet
 pub cases_none : (a : Parts) (env : List Entry) (all : List Case) (matched : ℕ) (known : Option ℕ) → TypesCasesFirst a a env all all matched known known
-cases_none a env all matched known = λ aloud F scope G n subject result s of_subject has. record { done = λ c. []; k = 0; now = result; own = []; carried = carried_refl; rows_done = done_none; means = has; asks = λ c. refl; gives = refl }
+cases_none a env all matched known = λ aloud F scope G n subject result its s of_subject has. record { done = λ c. []; k = 0; now = result; own = []; carried = carried_refl; rows_done = done_none; means = has; asks = λ c. refl; gives = refl }
 
 -- what cases ask, by the first of them
 cases_step : (c : Context) (n k : ℕ) (subject : Typ) (result : Option (Choice → Typ)) (x : Case) (xs : List Case) →
@@ -44,9 +44,9 @@ bodies_step (Some t) x xs = refl
 -- one case more
 pub cases_more : (a b d : Parts) (env : List Entry) (all left rest : List Case) (x : Case) (matched : ℕ) (known bodies : Option ℕ) (m : ℕ) → left ≡ x ∷ rest → Goes a b → TypesCasesFirst a b env all left matched known bodies → TypesCase b d env x matched bodies m →
     TypesCasesFirst a d env all rest matched known (Some m)
-cases_more a b d env all left rest x matched known bodies m split goes first one = λ aloud F scope G n subject result s of_subject has.
-    let p = first aloud F scope G n subject result s of_subject has in
-    let q = one (ap is_aloud goes.telling ∙ aloud) F scope (p.own ++ G) n p.k subject p.now (surrounds_on p.carried.stays s) (means_on p.carried.stays of_subject) p.means in
+cases_more a b d env all left rest x matched known bodies m split goes first one = λ aloud F scope G n subject result its s of_subject has.
+    let p = first aloud F scope G n subject result its s of_subject has in
+    let q = one (ap is_aloud goes.telling ∙ aloud) F scope (p.own ++ G) n p.k subject p.now its (surrounds_on p.carried.stays s) (means_on p.carried.stays of_subject) p.means in
     let same = sym (append_assoc q.own p.own G) in
     record {
       done = λ c. p.done c ++ case_asks c n p.k (subject c.chosen) (type_by c.chosen p.now) x;
@@ -65,8 +65,8 @@ cases_more a b d env all left rest x matched known bodies m split goes first one
 -- an operand that is no case
 pub cases_same : (a b d : Parts) (env : List Entry) (all left : List Case) (matched : ℕ) (known bodies : Option ℕ) → Goes a b → TypesCasesFirst a b env all left matched known bodies →
     ((F : Frame) (scope : Scope) (G : Letters) → Carried F scope (λ c. []) (sight b) G (sight d) G) → TypesCasesFirst a d env all left matched known bodies
-cases_same a b d env all left matched known bodies goes first still = λ aloud F scope G n subject result s of_subject has.
-    let p = first aloud F scope G n subject result s of_subject has in
+cases_same a b d env all left matched known bodies goes first still = λ aloud F scope G n subject result its s of_subject has.
+    let p = first aloud F scope G n subject result its s of_subject has in
     let q = still F scope (p.own ++ G) in
     record {
       done = p.done;
@@ -100,8 +100,8 @@ bodies_end (Some t) = refl
 
 -- all cases
 pub cases_all : (a b : Parts) (env : List Entry) (all left : List Case) (matched : ℕ) (known bodies : Option ℕ) → left ≡ [] → TypesCasesFirst a b env all left matched known bodies → TypesEachCase a b env all matched known bodies
-cases_all a b env all left matched known bodies none first = λ aloud F scope G n subject result s of_subject has.
-    let p = first aloud F scope G n subject result s of_subject has in
+cases_all a b env all left matched known bodies none first = λ aloud F scope G n subject result its s of_subject has.
+    let p = first aloud F scope G n subject result its s of_subject has in
     record {
       own = p.own;
       carried = carried_as (λ c. sym (append-nil (p.done c)) ∙ ap (λ ys. p.done c ++ ys) (sym (asks_end c n p.k (subject c.chosen) (type_by c.chosen p.now))) ∙
@@ -161,13 +161,13 @@ warned_cases {n = n} {subject = subject} {result = result} {all = all} bodies x 
 pub cases_typed : (a b d e : Parts) (env : List Entry) (all : List Case) (matched : ℕ) (known : Option ℕ) (bodies : Option NodeRef) (ty : NodeRef) → TypesEachCase a b env all matched known (option_map (λ (w : NodeRef). w.0) bodies) → OnlyWarnings b d →
     GivenOrAny bodies d e ty → TypesCases a e env all matched known ty.0
 unfolding warned_cases
-cases_typed a b d e env all matched known None ty typed warned any = λ aloud F scope G n subject result s of_subject has.
-    let x = typed aloud F scope G n subject result s of_subject has in
+cases_typed a b d e env all matched known None ty typed warned any = λ aloud F scope G n subject result its s of_subject has.
+    let x = typed aloud F scope G n subject result its s of_subject has in
     let w = only_warned b d {F = F} {scope = scope} {G = x.own ++ G} warned in
     let y = any F scope (x.own ++ G) (letter n 1) (λ t. tt) (surrounds_on w.stays (surrounds_on x.carried.stays s)).reached in
     new_result ty.0 (warned_cases None x w) y
-cases_typed a b d e env all matched known (Some w) ty typed warned (is, same) = λ aloud F scope G n subject result s of_subject has.
-    let x = typed aloud F scope G n subject result s of_subject has in
+cases_typed a b d e env all matched known (Some w) ty typed warned (is, same) = λ aloud F scope G n subject result its s of_subject has.
+    let x = typed aloud F scope G n subject result its s of_subject has in
     let H = x.own ++ G in
     let y : Carried F scope (λ c. []) (sight b) H (sight e) H = subst (λ q. Carried F scope (λ c. []) (sight b) H (sight q) H) (sym same) (only_warned b d warned) in
     subst (λ (m : NodeRef). CasesTo F scope (sight a) G (sight e) n subject result all m.0) (sym is) (known_result w.0 (warned_cases (Some w.0) x y))

@@ -147,7 +147,7 @@ arrows_more a b d ms to x m whole first made rest = λ F scope G types t all has
 -- fun p p -> e: the body is typed among the names of the parameters
 pub fun_typed : (a b d f : Parts) (env inner : List Entry) (n : ℕ) (at : Place) (ps : List Pattern) (e : Expression) (ms : List ℕ) (to m : ℕ) → TypesParameters a b env inner ps ms → Goes a b → TypesTo b d inner (λ c. e.typed c) (λ ch. ch.type_at e.node) to →
     MakesArrows d f ms to m → TypesRow a f env (λ c. (fun_expression n at ps e).typed c) n m
-fun_typed a b d f env inner n at ps e ms to m parameters goes body made = λ aloud F scope G s.
+fun_typed a b d f env inner n at ps e ms to m parameters goes body made = λ aloud F scope G its s.
     let x = parameters.typed aloud F scope G s in
     let names = subst (λ q. Surrounds as_declared F (sight b) (x.own ++ G) q (with_bound (all_names ps) scope)) (sym parameters.scope) (surrounds_bound x.names (surrounds_on x.carried.stays s)) in
     let y = body (ap is_aloud goes.telling ∙ aloud) F (with_bound (all_names ps) scope) (x.own ++ G) names in

@@ -14,13 +14,13 @@ use Rattle.typing_state.specs.Notes.{NotedNameless}
 use Rattle.typing_conditions.specs.Sights.{own, number_in, Letters}
 use Rattle.typing_conditions.specs.Frames.{Frame}
 use Rattle.typing_conditions.specs.Meanings.{Means, AllMean}
-use Rattle.typing_conditions.specs.Carrying.{Scope, Carried, CarriedTo}
+use Rattle.typing_conditions.specs.Carrying.{Scope, Carried, CarriedTo, SeesScope}
 use Rattle.typing_conditions.specs.Surroundings.{Surrounds}
 use Rattle.typing_conditions.specs.Hiding.{AreDone}
 use Rattle.typing_conditions.proofs.Answering.{then_to, then_made}
 use Rattle.typing_conditions.proofs.Carried.{carried_refl, carried_trans, carried_as, done_then, done_as, done_last}
 use Rattle.typing_conditions.proofs.Meaning.{means_on, all_mean_on}
-use Rattle.typing_conditions.proofs.Surrounding.{surrounds_on, surrounds_sees}
+use Rattle.typing_conditions.proofs.Surrounding.{surrounds_on, surrounds_sees, sees_on}
 use Rattle.typing_conditions.proofs.Hiding.{done_none, done_both}
 use Rattle.typing_steps.specs.States.{is_aloud, sight}
 use Rattle.typing_steps.specs.Typing.{as_declared, TypesTo, AsksEqual}
@@ -45,8 +45,8 @@ pub annotation_some : (a b : Parts) (env : List Entry) (w : TypeExpression) (m :
 annotation_some a b env w m read = λ aloud F scope G s. let x = read aloud F scope G s in record { own = (own w.node, m) ∷ []; carried = x.carried; done = x.done; means = x.means }
 
 -- without a written type the binding's type is over that of the body
-pub whole_plain : (a b : Parts) (e : Expression) (ms : List ℕ) (right m : ℕ) → MakesArrows a b ms right m → MakesWhole a b e None ms right m
-whole_plain a b e ms right m made = λ aloud F scope G n o types has all is. by n o has all is
+pub whole_plain : (a b : Parts) (env : List Entry) (e : Expression) (ms : List ℕ) (right m : ℕ) → MakesArrows a b ms right m → MakesWhole a b env e None ms right m
+whole_plain a b env e ms right m made = λ aloud F scope G n o types its sees has all is. by n o has all is
   where
     by : {F : Frame} {scope : Scope} {G : Letters} {types : List (Choice → Typ)} (n : ℕ) (o : Option TypeExpression) → MeansIf F (sight a) G (written_by o) None → AllMean F (sight a) G types ms → Means F (sight a) G (λ ch. ch.type_at e.node) right →
         CarriedTo F scope (λ c. has_written c.chosen n e o) (sight a) G (sight b) G (arrows_by types (right_by o e)) m
@@ -54,29 +54,29 @@ whole_plain a b e ms right m made = λ aloud F scope G n o types has all is. by 
     by n (Some w) has all is = absurd has
 
 -- with one the body has it, and the binding's type is over it
-pub whole_written : (a b d : Parts) (e : Expression) (at : Place) (written : ℕ) (ms : List ℕ) (right m : ℕ) → e.at ≡ at → AsksEqual a b at right written → MakesArrows b d ms written m → MakesWhole a d e (Some written) ms right m
-whole_written a b d e at written ms right m place asked made = λ aloud F scope G n o types has all is. by n aloud o has all is
+pub whole_written : (a b d : Parts) (env : List Entry) (e : Expression) (at : Place) (written : ℕ) (ms : List ℕ) (right m : ℕ) → e.at ≡ at → AsksEqual a b env at right written → MakesArrows b d ms written m → MakesWhole a d env e (Some written) ms right m
+whole_written a b d env e at written ms right m place asked made = λ aloud F scope G n o types its sees has all is. by n its sees aloud o has all is
   where
-    by : {F : Frame} {scope : Scope} {G : Letters} {types : List (Choice → Typ)} (n : ℕ) → is_aloud a.telling ≡ true → (o : Option TypeExpression) → MeansIf F (sight a) G (written_by o) (Some written) → AllMean F (sight a) G types ms →
+    by : {F : Frame} {scope : Scope} {G : Letters} {types : List (Choice → Typ)} (n : ℕ) → scope.own n ≡ true → SeesScope F scope (sight a) G env → is_aloud a.telling ≡ true → (o : Option TypeExpression) → MeansIf F (sight a) G (written_by o) (Some written) → AllMean F (sight a) G types ms →
         Means F (sight a) G (λ ch. ch.type_at e.node) right → CarriedTo F scope (λ c. has_written c.chosen n e o) (sight a) G (sight d) G (arrows_by types (right_by o e)) m
-    by n aloud None has all is = absurd has
-    by {F} {scope} {G} {types} n aloud (Some w) has all is =
-        let x = asked aloud F scope G (site n 0) (λ ch. ch.type_at e.node) (λ ch. ch.type_at w.node) is has in
+    by n its sees aloud None has all is = absurd has
+    by {F} {scope} {G} {types} n its sees aloud (Some w) has all is =
+        let x = asked aloud F scope G (site n 0) (λ ch. ch.type_at e.node) (λ ch. ch.type_at w.node) its sees is has in
         let y = subst (λ p. Carried F scope (λ c. ask n 0 p (equal (c.chosen.type_at e.node) (c.chosen.type_at w.node))) (sight a) G (sight b) G) (sym place) x in
         then_made y (made F scope G types (λ ch. ch.type_at w.node) (all_mean_on x.stays all) (means_on x.stays has))
 
 -- the body, and then the type of the binding
-pub body_typed : (a b d : Parts) (env : List Entry) (e : Expression) (written : Option ℕ) (ms : List ℕ) (right m : ℕ) → TypesTo a b env (λ c. e.typed c) (λ ch. ch.type_at e.node) right → Goes a b → MakesWhole b d e written ms right m →
+pub body_typed : (a b d : Parts) (env : List Entry) (e : Expression) (written : Option ℕ) (ms : List ℕ) (right m : ℕ) → TypesTo a b env (λ c. e.typed c) (λ ch. ch.type_at e.node) right → Goes a b → MakesWhole b d env e written ms right m →
     TypesRightBody a d env e written ms right m
-body_typed a b d env e written ms right m typed goes made = λ aloud F scope G n o types s has all.
+body_typed a b d env e written ms right m typed goes made = λ aloud F scope G n o types its s has all.
     let x = typed aloud F scope G s in
-    let y = made (ap is_aloud goes.telling ∙ aloud) F scope G n o types (means_if_on (written_by o) written x.carried.stays has) (all_mean_on x.carried.stays all) x.means in
+    let y = made (ap is_aloud goes.telling ∙ aloud) F scope G n o types its (sees_on scope x.carried.stays s.reached (surrounds_sees s)) (means_if_on (written_by o) written x.carried.stays has) (all_mean_on x.carried.stays all) x.means in
     record { typed = then_to x.carried y; right_means = means_on y.carried.stays x.means }
 
 -- A right side by its parts: the body is typed among the names of the parameters.
 pub right_typed : (a b d f : Parts) (env inner : List Entry) (ps : List Pattern) (o : Option TypeExpression) (e : Expression) (ms : List ℕ) (written : Option ℕ) (right m : ℕ) → TypesParameters a b env inner ps ms → Goes a b →
     ReadsAnnotation b d env o written → Goes b d → TypesRightBody d f inner e written ms right m → TypesRightParts a f env ps o e right m
-right_typed a b d f env inner ps o e ms written right m parameters goes annotation goes' body = λ aloud F scope G n s.
+right_typed a b d f env inner ps o e ms written right m parameters goes annotation goes' body = λ aloud F scope G n its s.
     let x = parameters.typed aloud F scope G s in
     let loud : is_aloud b.telling ≡ true = ap is_aloud goes.telling ∙ aloud in
     let y = annotation loud F scope (x.own ++ G) (surrounds_on x.carried.stays s) in
@@ -85,7 +85,7 @@ right_typed a b d f env inner ps o e ms written right m parameters goes annotati
     let here = surrounds_on y.carried.stays (surrounds_on x.carried.stays s) in
     let bound = all_bound_on y.carried.stays x.names in
     let names = subst (λ q. Surrounds as_declared F (sight d) H q (with_bound (all_names ps) scope)) (sym parameters.scope) (surrounds_bound bound here) in
-    let z = body (ap is_aloud goes'.telling ∙ loud) F (with_bound (all_names ps) scope) H n o (types_at ps) names y.means (all_mean_on y.carried.stays x.means) in
+    let z = body (ap is_aloud goes'.telling ∙ loud) F (with_bound (all_names ps) scope) H n o (types_at ps) its names y.means (all_mean_on y.carried.stays x.means) in
     let w : Carried F scope (λ c. e.typed (with_names c (all_names ps)) ++ has_written c.chosen n e o) (sight d) H (sight f) H = among_names bound z.typed.carried in
     let front = carried_trans x.carried y.carried in
     let both = carried_trans front w in
@@ -107,8 +107,8 @@ has_same c x (Some w) = refl
 
 -- the right side of a binding
 pub right_of_parts : (a b : Parts) (env : List Entry) (x : Binding) (right m : ℕ) → TypesRightParts a b env x.parameters x.annotation x.body right m → TypesRight a b env (λ c. right_side c x) x right m
-right_of_parts a b env x right m typed = λ aloud F scope G s.
-    let y = typed aloud F scope G x.node s in
+right_of_parts a b env x right m typed = λ aloud F scope G its s.
+    let y = typed aloud F scope G x.node its s in
     record {
       own = y.own;
       typed = record {
@@ -122,7 +122,7 @@ right_of_parts a b env x right m typed = λ aloud F scope G s.
 -- the same after the record of the binding's number
 pub right_recorded : (a b d : Parts) (env : List Entry) (number : ℕ) (x : Binding) (right m : ℕ) → number_in a.item number ≡ x.node → NotedNameless a b number env None → OnlyIndex a b → Goes a b → TypesRight b d env (λ c. right_side c x) x right m →
     TypesRight a d env (λ c. tell x.node c ++ right_side c x) x right m
-right_recorded a b d env number x right m place noted rest goes typed = λ aloud F scope G s.
+right_recorded a b d env number x right m place noted rest goes typed = λ aloud F scope G its s.
     let y = plain_noted a b {F = F} {scope = scope} {G = G} number env x.node place aloud noted rest (surrounds_sees s) in
-    let z = typed (ap is_aloud goes.telling ∙ aloud) F scope G (surrounds_on y.stays s) in
+    let z = typed (ap is_aloud goes.telling ∙ aloud) F scope G its (surrounds_on y.stays s) in
     record { own = z.own; typed = record { carried = carried_trans y z.typed.carried; means = z.typed.means }; done = done_last y z.typed.carried z.done; right_means = z.right_means }

@@ -8,10 +8,10 @@ use Rattle.typing_model.specs.Bindings.{right_side, bound_in_turn}
 use Rattle.env_table.specs.declared.entries.Entry.{Entry}
 use Rattle.typing_state.specs.declared.parts.Parts.{Parts}
 use Rattle.typing_state.specs.Goes.{Goes}
-use Rattle.typing_conditions.specs.Carrying.{Carried}
-use Rattle.typing_conditions.proofs.Carried.{carried_refl, carried_trans, carried_as, done_then, done_as, done_last}
+use Rattle.typing_conditions.specs.Carrying.{Carried, at_node}
+use Rattle.typing_conditions.proofs.Carried.{carried_refl, carried_trans, carried_as, done_then, done_as, done_last, carried_row, row_hides}
 use Rattle.typing_conditions.proofs.Meaning.{means_on}
-use Rattle.typing_conditions.proofs.Surrounding.{surrounds_on}
+use Rattle.typing_conditions.proofs.Surrounding.{surrounds_on, surrounds_at, own_node, surrounds_sees, sees_on}
 use Rattle.typing_conditions.proofs.Hiding.{done_none, done_both}
 use Rattle.typing_steps.specs.States.{is_aloud, sight}
 use Rattle.pattern_rows.specs.Bounds.{Bind}
@@ -21,23 +21,27 @@ use Rattle.binding_rows.specs.Rights.{whole_by, TypesRight}
 use Rattle.binding_rows.specs.Groups.{TypedBinding, IsTyped, AllTyped, none_typed, AsksWhole, TypesBindings, turn_asks, TypesTurn, TurnAdded, NoneAdded, TypesTurnIf, TypesTurnsFirst}
 use Rattle.binding_rows.proofs.Typed.{all_typed_on, all_typed_more, whole_same}
 use Rattle.pattern_rows.proofs.Opened.{done_grouped}
+use Rattle.typing_conditions.specs.Hiding.{AreDone}
 
 -- a binding: its right side with its number, its pattern, and the demand on the pattern
 pub turn_typed : (a b d e : Parts) (env : List Entry) (x : Binding) (seen : List Name) (added : List Bind) (right whole found : ℕ) → TypesRight a b env (λ c. tell x.node c ++ right_side c x) x right whole → Goes a b →
-    MatchesTo b d env x.pattern seen added found → Goes b d → AsksWhole d e x.pattern found whole → TypesTurn a e env seen x (record { names = added; right = right })
-turn_typed a b d e env x seen added right whole found typed goes matched goes' asked = λ aloud F scope G s.
-    let p = typed aloud F scope G s in
+    MatchesTo b d env x.pattern seen added found → Goes b d → AsksWhole d e env x.pattern found whole → TypesTurn a e env seen x (record { names = added; right = right })
+turn_typed a b d e env x seen added right whole found typed goes matched goes' asked = λ aloud F around G at.
+    let scope = at_node x.node around in
+    let s = surrounds_at x.node at in
+    let p = typed aloud F scope G (own_node x.node) s in
     let loud : is_aloud b.telling ≡ true = ap is_aloud goes.telling ∙ aloud in
     let q = matched.typed loud F scope (p.own ++ G) (surrounds_on p.typed.carried.stays s) in
-    let r = asked (ap is_aloud goes'.telling ∙ loud) F scope (matched.opens ++ (p.own ++ G)) x.node (whole_by x) q.typed.means (means_on q.typed.carried.stays p.typed.means) in
+    let r = asked (ap is_aloud goes'.telling ∙ loud) F scope (matched.opens ++ (p.own ++ G)) x.node (whole_by x) (own_node x.node) (sees_on scope q.typed.carried.stays (p.typed.carried.stays.reaches s.reached) (sees_on scope p.typed.carried.stays s.reached (surrounds_sees s))) q.typed.means (means_on q.typed.carried.stays p.typed.means) in
     let same = sym (append_assoc matched.opens p.own G) in
     let front = carried_trans p.typed.carried q.typed.carried in
     let both = carried_trans front r in
     let here : Carried F scope (λ c. turn_asks c seen x) (sight a) G (sight e) (matched.opens ++ (p.own ++ G)) = carried_as (λ c. ap (λ cs. tell x.node c ++ right_side c x ++ x.pattern.matched c seen ++ cs) (whole_same c x)) both in
+    let row = subst (λ H. Carried F scope (λ c. turn_asks c seen x) (sight a) G (sight e) H) same here in
     record {
       own = matched.opens ++ p.own;
-      carried = subst (λ H. Carried F scope (λ c. turn_asks c seen x) (sight a) G (sight e) H) same here;
-      done = done_grouped same here (done_as _ both (done_then front r (done_both (done_last p.typed.carried q.typed.carried q.done) (done_then p.typed.carried q.typed.carried p.done))));
+      carried = carried_row x.node row;
+      done = subst (λ xs. AreDone (sight e) xs (matched.opens ++ p.own)) (sym (row_hides around x.node row)) (done_grouped same here (done_as _ both (done_then front r (done_both (done_last p.typed.carried q.typed.carried q.done) (done_then p.typed.carried q.typed.carried p.done)))));
       typed = subst (λ H. IsTyped F (sight e) H x (record { names = added; right = right })) same (record { names = all_bound_on r.stays q.names; right = means_on r.stays (means_on q.typed.carried.stays p.right_means) });
     }
 

@@ -7,6 +7,7 @@ use Rattle.typing_model.specs.Demands.{site, equal}
 use Rattle.typing_model.specs.Contexts.{Choice, Context, ask, type_at}
 use Rattle.typing_model.specs.Parts.{Pattern, TypeExpression, Binding}
 use Rattle.typing_model.specs.Bindings.{arrows, pattern_has, names_of_group}
+use Rattle.env_table.specs.declared.entries.Entry.{Entry}
 use Rattle.typing_state.specs.declared.parts.Parts.{Parts}
 use Rattle.typing_conditions.specs.Sights.{Sight, Letters}
 use Rattle.typing_conditions.specs.Frames.{Frame}
@@ -78,8 +79,8 @@ whole_same c x =
     ap (λ t. ask x.node 1 x.pattern.at (equal (type_at c x.pattern.node) t)) (arrows_same c x.parameters (right_by x.annotation x.body) ∙ ap (λ t. arrows c x.parameters t) (right_same c x x.annotation))
 
 -- the demand, and the warnings of the pattern
-pub whole_asked : (a b d : Parts) (p : Pattern) (at : Place) (found whole : ℕ) → p.at ≡ at → AsksEqual a b at found whole → OnlyWarnings b d → AsksWhole a d p found whole
-whole_asked a b d p at found whole place asked warned = λ aloud F scope G n t is has.
-    let x = asked aloud F scope G (site n 1) (λ ch. ch.type_at p.node) t is has in
+pub whole_asked : (a b d : Parts) (env : List Entry) (p : Pattern) (at : Place) (found whole : ℕ) → p.at ≡ at → AsksEqual a b env at found whole → OnlyWarnings b d → AsksWhole a d env p found whole
+whole_asked a b d env p at found whole place asked warned = λ aloud F scope G n t its sees is has.
+    let x = asked aloud F scope G (site n 1) (λ ch. ch.type_at p.node) t its sees is has in
     let y = subst (λ l. Carried F scope (λ c. ask n 1 l (equal (type_at c p.node) (t c.chosen))) (sight a) G (sight b) G) (sym place) x in
     carried_as (λ c. append-nil (ask n 1 p.at (equal (type_at c p.node) (t c.chosen)))) (carried_trans y (only_warned b d warned))

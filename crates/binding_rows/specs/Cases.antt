@@ -91,7 +91,7 @@ pub record MatchedAs (F : Frame) (scope : Scope) (a : Sight) (G : Letters) (b : 
 
 -- the same of a call, where faults are reported
 abbrev pub MatchesAs : (a b : Parts) → List Entry → Pattern → List Bind → (wanted : ℕ) → Type 0
-MatchesAs a b env p added wanted = is_aloud a.telling ≡ true → (F : Frame) (scope : Scope) (G : Letters) (n k : ℕ) (t : Choice → Typ) → Surrounds as_declared F (sight a) G env scope → Means F (sight a) G t wanted →
+MatchesAs a b env p added wanted = is_aloud a.telling ≡ true → (F : Frame) (scope : Scope) (G : Letters) (n k : ℕ) (t : Choice → Typ) → scope.own n ≡ true → Surrounds as_declared F (sight a) G env scope → Means F (sight a) G t wanted →
     MatchedAs F scope (sight a) G (sight b) p n k t added
 
 -- the same with the names in scope after it
@@ -102,7 +102,7 @@ pub record MatchesWithin (a b : Parts) (env inner : List Entry) (p : Pattern) (w
 
 -- a guard is a bool, where there is one
 abbrev pub TypesGuard : (a b : Parts) → List Entry → Option Expression → Type 0
-TypesGuard a b env guard = is_aloud a.telling ≡ true → (F : Frame) (scope : Scope) (G : Letters) (n k : ℕ) → Surrounds as_declared F (sight a) G env scope → Carried F scope (λ c. guard_asks c n k guard) (sight a) G (sight b) G
+TypesGuard a b env guard = is_aloud a.telling ≡ true → (F : Frame) (scope : Scope) (G : Letters) (n k : ℕ) → scope.own n ≡ true → Surrounds as_declared F (sight a) G env scope → Carried F scope (λ c. guard_asks c n k guard) (sight a) G (sight b) G
 
 -- a body, which has the type of the bodies, where that is known; a node has the type of the bodies then
 pub record BodyCarried (F : Frame) (scope : Scope) (a : Sight) (G : Letters) (b : Sight) (n k : ℕ) (result : Option (Choice → Typ)) (body : Expression) (m : ℕ) : Type 0 where
@@ -111,7 +111,7 @@ pub record BodyCarried (F : Frame) (scope : Scope) (a : Sight) (G : Letters) (b 
 
 -- the same of a call; `bodies` is the node of the type of the bodies, where that is known
 abbrev pub TypesBody : (a b : Parts) → List Entry → Expression → (bodies : Option ℕ) → (m : ℕ) → Type 0
-TypesBody a b env body bodies m = is_aloud a.telling ≡ true → (F : Frame) (scope : Scope) (G : Letters) (n k : ℕ) (result : Option (Choice → Typ)) → Surrounds as_declared F (sight a) G env scope → MeansIf F (sight a) G result bodies →
+TypesBody a b env body bodies m = is_aloud a.telling ≡ true → (F : Frame) (scope : Scope) (G : Letters) (n k : ℕ) (result : Option (Choice → Typ)) → scope.own n ≡ true → Surrounds as_declared F (sight a) G env scope → MeansIf F (sight a) G result bodies →
     BodyCarried F scope (sight a) G (sight b) n k result body m
 
 -- a case by its parts: what they ask is carried, with letters of their own, and then a node has the type of the bodies
@@ -123,7 +123,7 @@ pub record PartsCarried (F : Frame) (scope : Scope) (a : Sight) (G : Letters) (b
 
 -- the same of a call; `matched` is the node of the type of what is matched
 abbrev pub TypesCaseParts : (a b : Parts) → List Entry → Pattern → Option Expression → Expression → (matched : ℕ) → (bodies : Option ℕ) → (m : ℕ) → Type 0
-TypesCaseParts a b env p guard body matched bodies m = is_aloud a.telling ≡ true → (F : Frame) (scope : Scope) (G : Letters) (n k : ℕ) (subject : Choice → Typ) (result : Option (Choice → Typ)) → Surrounds as_declared F (sight a) G env scope →
+TypesCaseParts a b env p guard body matched bodies m = is_aloud a.telling ≡ true → (F : Frame) (scope : Scope) (G : Letters) (n k : ℕ) (subject : Choice → Typ) (result : Option (Choice → Typ)) → scope.own n ≡ true → Surrounds as_declared F (sight a) G env scope →
     Means F (sight a) G subject matched → MeansIf F (sight a) G result bodies → PartsCarried F scope (sight a) G (sight b) n k subject result p guard body m
 
 -- the same, where there is a node of the type of the bodies then
@@ -139,7 +139,7 @@ pub record CaseCarried (F : Frame) (scope : Scope) (a : Sight) (G : Letters) (b 
 
 -- the same of a call
 abbrev pub TypesCase : (a b : Parts) → List Entry → Case → (matched : ℕ) → (bodies : Option ℕ) → (m : ℕ) → Type 0
-TypesCase a b env x matched bodies m = is_aloud a.telling ≡ true → (F : Frame) (scope : Scope) (G : Letters) (n k : ℕ) (subject : Choice → Typ) (result : Option (Choice → Typ)) → Surrounds as_declared F (sight a) G env scope → Means F (sight a) G subject matched →
+TypesCase a b env x matched bodies m = is_aloud a.telling ≡ true → (F : Frame) (scope : Scope) (G : Letters) (n k : ℕ) (subject : Choice → Typ) (result : Option (Choice → Typ)) → scope.own n ≡ true → Surrounds as_declared F (sight a) G env scope → Means F (sight a) G subject matched →
     MeansIf F (sight a) G result bodies → CaseCarried F scope (sight a) G (sight b) n k subject result x m
 
 -- the same of an operand that may be no case: then nothing is asked, and the type of the bodies is what it was
@@ -156,7 +156,7 @@ pub record CasesCarried (F : Frame) (scope : Scope) (a : Sight) (G : Letters) (b
 
 -- the same of a call; `known` is the node of the type of the bodies before it
 abbrev pub TypesEachCase : (a b : Parts) → List Entry → List Case → (matched : ℕ) → (known bodies : Option ℕ) → Type 0
-TypesEachCase a b env xs matched known bodies = is_aloud a.telling ≡ true → (F : Frame) (scope : Scope) (G : Letters) (n : ℕ) (subject : Choice → Typ) (result : Option (Choice → Typ)) → Surrounds as_declared F (sight a) G env scope → Means F (sight a) G subject matched →
+TypesEachCase a b env xs matched known bodies = is_aloud a.telling ≡ true → (F : Frame) (scope : Scope) (G : Letters) (n : ℕ) (subject : Choice → Typ) (result : Option (Choice → Typ)) → scope.own n ≡ true → Surrounds as_declared F (sight a) G env scope → Means F (sight a) G subject matched →
     MeansIf F (sight a) G result known → CasesCarried F scope (sight a) G (sight b) n subject result xs bodies
 
 -- the first of some cases, and some are left, whose demands have numbers from k on; `now` is the type of the bodies so far
@@ -173,7 +173,7 @@ pub record CasesFirst (F : Frame) (scope : Scope) (a : Sight) (G : Letters) (b :
 
 -- the same in a loop
 abbrev pub TypesCasesFirst : (a b : Parts) → List Entry → (all left : List Case) → (matched : ℕ) → (known bodies : Option ℕ) → Type 0
-TypesCasesFirst a b env all left matched known bodies = is_aloud a.telling ≡ true → (F : Frame) (scope : Scope) (G : Letters) (n : ℕ) (subject : Choice → Typ) (result : Option (Choice → Typ)) → Surrounds as_declared F (sight a) G env scope → Means F (sight a) G subject matched →
+TypesCasesFirst a b env all left matched known bodies = is_aloud a.telling ≡ true → (F : Frame) (scope : Scope) (G : Letters) (n : ℕ) (subject : Choice → Typ) (result : Option (Choice → Typ)) → scope.own n ≡ true → Surrounds as_declared F (sight a) G env scope → Means F (sight a) G subject matched →
     MeansIf F (sight a) G result known → CasesFirst F scope (sight a) G (sight b) n subject result all left bodies
 
 -- The cases of a row, with letters of its own: what they ask is carried, and then a node has the type of the bodies, or any type. `owns`: its letters are of rows that are done, but
@@ -185,7 +185,7 @@ pub record CasesTo (F : Frame) (scope : Scope) (a : Sight) (G : Letters) (b : Si
 
 -- the same of a call
 abbrev pub TypesCases : (a b : Parts) → List Entry → List Case → (matched : ℕ) → (known : Option ℕ) → (m : ℕ) → Type 0
-TypesCases a b env xs matched known m = is_aloud a.telling ≡ true → (F : Frame) (scope : Scope) (G : Letters) (n : ℕ) (subject : Choice → Typ) (result : Option (Choice → Typ)) → Surrounds as_declared F (sight a) G env scope → Means F (sight a) G subject matched →
+TypesCases a b env xs matched known m = is_aloud a.telling ≡ true → (F : Frame) (scope : Scope) (G : Letters) (n : ℕ) (subject : Choice → Typ) (result : Option (Choice → Typ)) → scope.own n ≡ true → Surrounds as_declared F (sight a) G env scope → Means F (sight a) G subject matched →
     MeansIf F (sight a) G result known → CasesTo F scope (sight a) G (sight b) n subject result xs m
 
 -- the type of the bodies where there is one, and else any type

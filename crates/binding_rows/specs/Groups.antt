@@ -11,7 +11,7 @@ use Rattle.typing_state.specs.declared.parts.Parts.{Parts}
 use Rattle.typing_conditions.specs.Sights.{Sight, Letters}
 use Rattle.typing_conditions.specs.Frames.{Frame}
 use Rattle.typing_conditions.specs.Meanings.{Means}
-use Rattle.typing_conditions.specs.Carrying.{Asks, Scope, Carried}
+use Rattle.typing_conditions.specs.Carrying.{SeesScope, Asks, Scope, Carried}
 use Rattle.typing_conditions.specs.Hiding.{AreDone}
 use Rattle.typing_conditions.specs.Surroundings.{Surrounds}
 use Rattle.typing_steps.specs.States.{is_aloud, sight}
@@ -64,8 +64,8 @@ abbrev pub whole_asks : Choice → Binding → List Condition
 whole_asks ch x = ask x.node 1 x.pattern.at (equal (ch.type_at x.pattern.node) (whole_by x ch))
 
 -- the demand that a pattern has a type, for a binding of any number; the nodes are those of both types
-abbrev pub AsksWhole : (a b : Parts) → Pattern → (found whole : ℕ) → Type 0
-AsksWhole a b p found whole = is_aloud a.telling ≡ true → (F : Frame) (scope : Scope) (G : Letters) (n : ℕ) (t : Choice → Typ) → Means F (sight a) G (λ ch. ch.type_at p.node) found → Means F (sight a) G t whole →
+abbrev pub AsksWhole : (a b : Parts) → List Entry → Pattern → (found whole : ℕ) → Type 0
+AsksWhole a b env p found whole = is_aloud a.telling ≡ true → (F : Frame) (scope : Scope) (G : Letters) (n : ℕ) (t : Choice → Typ) → scope.own n ≡ true → SeesScope F scope (sight a) G env → Means F (sight a) G (λ ch. ch.type_at p.node) found → Means F (sight a) G t whole →
     Carried F scope (λ c. ask n 1 p.at (equal (type_at c p.node) (t c.chosen))) (sight a) G (sight b) G
 
 -- a binding is typed, with letters of its own, where this is asked
@@ -185,14 +185,19 @@ abbrev pub conclusions_ask : Context → List Binding → List Condition
 conclusions_ask c [] = []
 conclusions_ask c (x ∷ xs) = conclusion_asks c x ++ conclusions_ask c xs
 
+-- the demands of each of these bindings are made in a scope
+abbrev pub AreOwn : Scope → List Binding → Type 0
+AreOwn scope [] = Unit {0}
+AreOwn scope (x ∷ xs) = (scope.own x.node ≡ true) × AreOwn scope xs
+
 -- the right side of a binding whose pattern is typed, among the names of the group
 abbrev pub ConcludesBinding : (a b : Parts) → List Entry → Binding → OpenedBinding → TypedBinding → Type 0
-ConcludesBinding a b env x o y = is_aloud a.telling ≡ true → (F : Frame) (scope : Scope) (G : Letters) → Surrounds as_declared F (sight a) G env scope → IsOpened F (sight a) G x o →
+ConcludesBinding a b env x o y = is_aloud a.telling ≡ true → (F : Frame) (scope : Scope) (G : Letters) → scope.own x.node ≡ true → Surrounds as_declared F (sight a) G env scope → IsOpened F (sight a) G x o →
     BindingCarried F scope (λ c. conclusion_asks c x) (sight a) G (sight b) x y
 
 -- the same of bindings in order
 abbrev pub ConcludesAll : (a b : Parts) → List Entry → List Binding → List OpenedBinding → List TypedBinding → Type 0
-ConcludesAll a b env xs os ys = is_aloud a.telling ≡ true → (F : Frame) (scope : Scope) (G : Letters) → Surrounds as_declared F (sight a) G env scope → AllOpened F (sight a) G xs os →
+ConcludesAll a b env xs os ys = is_aloud a.telling ≡ true → (F : Frame) (scope : Scope) (G : Letters) → AreOwn scope xs → Surrounds as_declared F (sight a) G env scope → AllOpened F (sight a) G xs os →
     BindingsCarried F scope (λ c. conclusions_ask c xs) (sight a) G (sight b) xs ys
 
 -- the first right sides are typed, and some are left, whose patterns are these
@@ -209,7 +214,7 @@ pub record ConcludedFirst (F : Frame) (scope : Scope) (a : Sight) (G : Letters) 
 
 -- the same in a loop; `opened` are all patterns, and `os` those that are left
 abbrev pub ConcludesFirst : (a b : Parts) → List Entry → (all left : List Binding) → (opened os : List OpenedBinding) → List TypedBinding → Type 0
-ConcludesFirst a b env all left opened os ys = is_aloud a.telling ≡ true → (F : Frame) (scope : Scope) (G : Letters) → Surrounds as_declared F (sight a) G env scope → AllOpened F (sight a) G all opened →
+ConcludesFirst a b env all left opened os ys = is_aloud a.telling ≡ true → (F : Frame) (scope : Scope) (G : Letters) → AreOwn scope all → Surrounds as_declared F (sight a) G env scope → AllOpened F (sight a) G all opened →
     ConcludedFirst F scope (sight a) G (sight b) all left os ys
 
 -- a call after which nothing is asked

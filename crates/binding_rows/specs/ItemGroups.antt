@@ -1,5 +1,5 @@
 -- What the `let` of an item is made of.
-use Rattle.std.specs.Prelude.{◌≡◌, ℕ, suc, Bool, List, [], ◌∷◌, ◌++◌, None}
+use Rattle.std.specs.Prelude.{◌≡◌, ℕ, suc, Bool, false, List, [], ◌∷◌, ◌++◌, None}
 use Rattle.token_model.specs.Kinds.{Tok}
 use Rattle.type_model.specs.Types.{Typ}
 use Rattle.signature_model.specs.Declarations.{Name}
@@ -23,7 +23,7 @@ use Rattle.binding_rows.specs.Outside.{Outside}
 
 -- the scope inside an item's `let`, whose node has this number: the type variables among its tokens are its own
 abbrev pub item_scope : ℕ → List Tok → (Choice → Environment) → Scope
-item_scope n ts E = record { env = E; variables = in_item n; held = variables_written ts }
+item_scope n ts E = record { env = E; variables = in_item n; held = variables_written ts; own = λ m. false }
 
 -- what a group asks as an item, inside it: that of any group, and that the types of its names were made before it
 abbrev pub group_asks : ℕ → Bool → List Binding → Asks

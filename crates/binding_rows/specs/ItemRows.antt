@@ -32,6 +32,7 @@ use Rattle.binding_rows.specs.Lets.{ToClose, bind_nodes, names_closed}
 use Rattle.binding_rows.specs.LetNodes.{typed_as, ClosesBindings}
 use Rattle.binding_rows.specs.Scopes.{AreMade}
 use Rattle.typing_conditions.specs.Hiding.{ArePlaced, NoneDoubtful}
+use Rattle.binding_rows.specs.Stopped.{StopsItems}
 use Rattle.binding_rows.specs.Outside.{InEachMet, Outside, Left, letters_left, ItemsCarried, SeesItems}
 use Rattle.typing_rows.specs.Noted.{AreNoted}
 
@@ -89,7 +90,7 @@ pub data AreOwned : List Item → List Left → Type 0 where
 -- What an item gives where the names `seen` stand before it in its structure: what it asks is carried, and the next item starts among its names. In each context
 -- that the state after it allows, and in which what it asks is met, it adds these entries, and names the types, modules and module types `names`. Something is recorded
 -- for each type expression that has unknown types among the names. Where K holds, all that is to be known of names is known after it too, no letter that it left is in doubt, and
--- for each node that is treated in it the names in scope are recorded (`SeesItems`).
+-- for each node that is treated in it the names in scope are recorded (`SeesItems`), and it is known what was asked where two types were reported to differ (`StopsItems`).
 pub record ItemDone (D : Declared) (K : Type 0) (E : Choice → Environment) (m : Item) (seen names : Seen) (a b : Parts) (G : Letters) (after : List Entry) : Type 0 where
   pub letters : Letters
   pub env : Choice → Environment
@@ -97,6 +98,7 @@ pub record ItemDone (D : Declared) (K : Type 0) (E : Choice → Environment) (m 
   pub owners : AreOwned (m ∷ []) carried.left
   pub clear : K → ArePlaced (sight b) → NoneDoubtful (letters_left carried.left)
   pub sees : K → SeesItems E (λ c. m.asks c seen) (sight b) letters carried.left carried.judged
+  pub stops : K → StopsItems E (λ c. m.asks c seen) (sight a) G (sight b) letters carried.left carried.judged carried.told
   pub outside : Outside D (sight b) letters after env
   pub knows : K → outside.known ≡ true
   pub noted : AreNoted outside.older b
@@ -112,6 +114,7 @@ pub record ItemsDone (D : Declared) (K : Type 0) (E : Choice → Environment) (m
   pub owners : AreOwned ms carried.left
   pub clear : K → ArePlaced (sight b) → NoneDoubtful (letters_left carried.left)
   pub sees : K → SeesItems E (λ c. items_ask c seen ms) (sight b) letters carried.left carried.judged
+  pub stops : K → StopsItems E (λ c. items_ask c seen ms) (sight a) G (sight b) letters carried.left carried.judged carried.told
   pub outside : Outside D (sight b) letters after env
   pub knows : K → outside.known ≡ true
   pub noted : AreNoted outside.older b

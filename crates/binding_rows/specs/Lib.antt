@@ -11,6 +11,7 @@ pub mod LetNodes
 -- What an item's own `let` does.
 pub mod Scopes
 pub mod Outside
+pub mod Stopped
 pub mod ItemGroups
 pub mod ItemRows
 -- What the functions of cases and of functions carry.

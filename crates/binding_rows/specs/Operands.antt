@@ -46,8 +46,8 @@ abbrev pub ReadsAnnotationOf : (a b : Parts) → List Entry → Option Numbered 
 ReadsAnnotationOf a b env o m = IfSome o IsTypeOperand → ReadsAnnotation a b env (option_map (λ q. type_of a.item q) o) m
 
 -- the type of a binding, by the operand of its body
-abbrev pub MakesWholeOf : (a b : Parts) → Numbered → (written : Option ℕ) → (ms : List ℕ) → (right m : ℕ) → Type 0
-MakesWholeOf a b o written ms right m = MakesWhole a b (expression_of a.item o) written ms right m
+abbrev pub MakesWholeOf : (a b : Parts) → List Entry → Numbered → (written : Option ℕ) → (ms : List ℕ) → (right m : ℕ) → Type 0
+MakesWholeOf a b env o written ms right m = MakesWhole a b env (expression_of a.item o) written ms right m
 
 -- the body of a right side
 abbrev pub TypesRightBodyOf : (a b : Parts) → List Entry → Numbered → (written : Option ℕ) → (ms : List ℕ) → (right m : ℕ) → Type 0
@@ -66,8 +66,8 @@ abbrev pub RecordsRightNode : (a b : Parts) → List Entry → (n : ℕ) → Tre
 RecordsRightNode a b env n t right m = IsBindingNode n t → TypesRight a b env (λ c. tell (binding_over a.item n t).node c ++ right_side c (binding_over a.item n t)) (binding_over a.item n t) right m
 
 -- the demand that the pattern of a binding has the type of the whole
-abbrev pub AsksWholeOf : (a b : Parts) → Numbered → (found whole : ℕ) → Type 0
-AsksWholeOf a b o found whole = AsksWhole a b (pattern_of a.item o) found whole
+abbrev pub AsksWholeOf : (a b : Parts) → List Entry → Numbered → (found whole : ℕ) → Type 0
+AsksWholeOf a b env o found whole = AsksWhole a b env (pattern_of a.item o) found whole
 
 -- a binding without `rec`, by its node: it is typed, and mentions names
 pub record TurnOf (a b : Parts) (env : List Entry) (seen seen' : List Name) (x : Binding) (y : TypedBinding) : Type 0 where

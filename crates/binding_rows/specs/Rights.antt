@@ -11,7 +11,7 @@ use Rattle.typing_state.specs.declared.parts.Parts.{Parts}
 use Rattle.typing_conditions.specs.Sights.{Sight, Letters}
 use Rattle.typing_conditions.specs.Frames.{Frame}
 use Rattle.typing_conditions.specs.Meanings.{Means, AllMean}
-use Rattle.typing_conditions.specs.Carrying.{Asks, Scope, Carried, CarriedTo}
+use Rattle.typing_conditions.specs.Carrying.{SeesScope, Asks, Scope, Carried, CarriedTo}
 use Rattle.typing_conditions.specs.Hiding.{AreDone}
 use Rattle.typing_conditions.specs.Surroundings.{Surrounds}
 use Rattle.typing_steps.specs.States.{is_aloud, sight}
@@ -56,8 +56,8 @@ ReadsAnnotation a b env o m = is_aloud a.telling ≡ true → (F : Frame) (scope
 
 -- the type of a binding once its body is typed, which has the written type: what is asked is carried, and a node has the type of the binding.
 -- `written` is the node of the written type, `ms` are those of the parameters, and `right` is that of the body.
-abbrev pub MakesWhole : (a b : Parts) → Expression → (written : Option ℕ) → (ms : List ℕ) → (right m : ℕ) → Type 0
-MakesWhole a b e written ms right m = is_aloud a.telling ≡ true → (F : Frame) (scope : Scope) (G : Letters) (n : ℕ) (o : Option TypeExpression) (types : List (Choice → Typ)) → MeansIf F (sight a) G (written_by o) written →
+abbrev pub MakesWhole : (a b : Parts) → List Entry → Expression → (written : Option ℕ) → (ms : List ℕ) → (right m : ℕ) → Type 0
+MakesWhole a b env e written ms right m = is_aloud a.telling ≡ true → (F : Frame) (scope : Scope) (G : Letters) (n : ℕ) (o : Option TypeExpression) (types : List (Choice → Typ)) → scope.own n ≡ true → SeesScope F scope (sight a) G env → MeansIf F (sight a) G (written_by o) written →
     AllMean F (sight a) G types ms → Means F (sight a) G (λ ch. ch.type_at e.node) right → CarriedTo F scope (λ c. has_written c.chosen n e o) (sight a) G (sight b) G (arrows_by types (right_by o e)) m
 
 -- a body, which has the written type: what is asked is carried, a node has the type of the body, and another that of the binding
@@ -67,7 +67,7 @@ pub record BodyTyped (F : Frame) (scope : Scope) (a : Sight) (G : Letters) (b : 
 
 -- the same of a call among the names of the parameters
 abbrev pub TypesRightBody : (a b : Parts) → List Entry → Expression → (written : Option ℕ) → (ms : List ℕ) → (right m : ℕ) → Type 0
-TypesRightBody a b env e written ms right m = is_aloud a.telling ≡ true → (F : Frame) (scope : Scope) (G : Letters) (n : ℕ) (o : Option TypeExpression) (types : List (Choice → Typ)) → Surrounds as_declared F (sight a) G env scope →
+TypesRightBody a b env e written ms right m = is_aloud a.telling ≡ true → (F : Frame) (scope : Scope) (G : Letters) (n : ℕ) (o : Option TypeExpression) (types : List (Choice → Typ)) → scope.own n ≡ true → Surrounds as_declared F (sight a) G env scope →
     MeansIf F (sight a) G (written_by o) written → AllMean F (sight a) G types ms → BodyTyped F scope (sight a) G (sight b) n o types e right m
 
 -- a right side by its parts: what it asks is carried, with letters of its own, a node has the type of the body, and another that of the binding
@@ -79,10 +79,10 @@ pub record RightCarried (F : Frame) (scope : Scope) (asks : Asks) (a : Sight) (G
 
 -- the same of a call, for a binding of any number
 abbrev pub TypesRightParts : (a b : Parts) → List Entry → List Pattern → Option TypeExpression → Expression → (right m : ℕ) → Type 0
-TypesRightParts a b env ps o e right m = is_aloud a.telling ≡ true → (F : Frame) (scope : Scope) (G : Letters) (n : ℕ) → Surrounds as_declared F (sight a) G env scope →
+TypesRightParts a b env ps o e right m = is_aloud a.telling ≡ true → (F : Frame) (scope : Scope) (G : Letters) (n : ℕ) → scope.own n ≡ true → Surrounds as_declared F (sight a) G env scope →
     RightCarried F scope (λ c. right_parts_ask c n ps o e) (sight a) G (sight b) ps o e right m
 
 -- the right side of a binding, which asks this
 abbrev pub TypesRight : (a b : Parts) → List Entry → Asks → Binding → (right m : ℕ) → Type 0
-TypesRight a b env asks x right m = is_aloud a.telling ≡ true → (F : Frame) (scope : Scope) (G : Letters) → Surrounds as_declared F (sight a) G env scope →
+TypesRight a b env asks x right m = is_aloud a.telling ≡ true → (F : Frame) (scope : Scope) (G : Letters) → scope.own x.node ≡ true → Surrounds as_declared F (sight a) G env scope →
     RightCarried F scope asks (sight a) G (sight b) x.parameters x.annotation x.body right m

@@ -104,7 +104,7 @@ pub fn whole(
     parameters: &[NodeRef],
     env: &Env,
 ) -> Result<NodeRef, NoMemory>
-    ensures carries { IfOk result (λ m. MakesWholeOf at.old at.new (operand_view body.entry) (option_map (λ n. n.0) annotation) (numbers parameters.now) right.0 m.0) }
+    ensures carries { IfOk result (λ m. MakesWholeOf at.old at.new env.now (operand_view body.entry) (option_map (λ n. n.0) annotation) (numbers parameters.now) right.0 m.0) }
     ensures goes { Goes at.old at.new }
 {
     match annotation {
@@ -201,7 +201,7 @@ pub fn pattern_has(
     env: &Env,
     depth: Depth,
 ) -> Result<(), NoMemory>
-    ensures carries { OnOk result (AsksWholeOf at.old at.new (filled_in opened.now.binding.number (node_view opened.now.binding.node.now) 0) opened.now.matched.ty.0 whole.0) }
+    ensures carries { OnOk result (AsksWholeOf at.old at.new env.now (filled_in opened.now.binding.number (node_view opened.now.binding.node.now) 0) opened.now.matched.ty.0 whole.0) }
     ensures goes { Goes at.old at.new }
 {
     let pattern = pattern_in(opened.binding);

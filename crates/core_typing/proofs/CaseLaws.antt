@@ -34,8 +34,9 @@ use Rattle.binding_rows.proofs.Ordered.{cases_further, cases_typed}
 use Rattle.binding_rows.proofs.Matches.{match_typed, try_typed, function_typed, match_term, try_term, function_term}
 use Rattle.binding_rows.proofs.Parameters.{fun_typed, fun_term}
 use Rattle.expression_steps.specs.declared.forms.RowForm.TheVariants as form
-use Rattle.expression_steps.specs.Forms.{form_of, row_at}
-use Rattle.expression_steps.proofs.CarryingLaws.{rows_same}
+use Rattle.value_forms.specs.Heads.{row_at}
+use Rattle.value_forms.proofs.Nodes.{rows_same}
+use Rattle.expression_steps.specs.Forms.{form_of}
 use Rattle.binding_steps.specs.Sides.{sides_by}
 use Rattle.binding_steps.proofs.ParameterLaws.{read_one}
 
@@ -147,6 +148,6 @@ body_by a b env o None ty m is first later carried = subst (λ (x : NodeRef). Ty
 body_by a b env o (Some w) ty m is first later carried = subst (λ (x : NodeRef). TypesBody a b env (expression_of a.item o) (Some w.0) x.0) (sym is) (body_later a b env (expression_of a.item o) w.0 (later carried))
 
 -- an expression of which nothing is asked
-pub typed_unasked : (a b d : Parts) (env : List Entry) (e : Expression) (at : Place) (found : ℕ) (wanted : Option NodeRef) → wanted ≡ None → TypesTo a b env (λ c. e.typed c) (λ ch. ch.type_at e.node) found → AsksEqualIf b d at found wanted →
+pub typed_unasked : (a b d : Parts) (env : List Entry) (e : Expression) (at : Place) (found : ℕ) (wanted : Option NodeRef) → wanted ≡ None → TypesTo a b env (λ c. e.typed c) (λ ch. ch.type_at e.node) found → AsksEqualIf b d env at found wanted →
     TypesTo a d env (λ c. e.typed c) (λ ch. ch.type_at e.node) found
-typed_unasked a b d env e at found wanted none typed asked = subst (λ q. TypesTo a q env (λ c. e.typed c) (λ ch. ch.type_at e.node) found) (sym (subst (AsksEqualIf b d at found) none asked)) typed
+typed_unasked a b d env e at found wanted none typed asked = subst (λ q. TypesTo a q env (λ c. e.typed c) (λ ch. ch.type_at e.node) found) (sym (subst (AsksEqualIf b d env at found) none asked)) typed

@@ -14,8 +14,8 @@ use Rattle.typing_state.specs.Goes.{Goes, Silent}
 use Rattle.use_typing.proofs.Reading.{rest_read}
 use Rattle.match_warnings.specs.Warnings.{WarnsOf, WarnsAtLast, warnings_of}
 use Rattle.match_warnings.proofs.Warned.{of_silent}
-use Rattle.expression_steps.specs.Forms.{row_at}
-use Rattle.expression_steps.proofs.Nodes.{row_of_node, place_of_node}
+use Rattle.value_forms.specs.Heads.{row_at}
+use Rattle.value_forms.proofs.Nodes.{row_of_node, place_of_node}
 use Rattle.core_typing.specs.Cases.{place_there, places_there}
 
 -- the places so far and those that are left

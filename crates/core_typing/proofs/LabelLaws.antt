@@ -11,7 +11,7 @@ use Rattle.operand_laws.specs.Operands.{number_of, parts_of, path_of, expression
 use Rattle.operand_laws.proofs.Tokens.{path_stands}
 use Rattle.typing_rows.specs.CarriedRows.{IsCarriedRow, IsOfCarriedRows}
 use Rattle.record_rows.specs.RecordExpressions.{IsLoose, IsLooseAt}
-use Rattle.expression_steps.specs.Heads.{label_at, label_in, lower_path, if_lower}
+use Rattle.value_forms.specs.Heads.{label_at, label_in, lower_path, if_lower}
 
 name_loose : (q : List Tok) (start end col : ℕ) (name : List ℕ) (k : Kind) → let w : Written = record { qualifiers = q; last = Some (record { kind = k; start = start; end = end; col = col; name = name }) } in if_lower w k ≡ None → IsLoose (name_form (path_of w))
 name_loose q start end col name lower e = absurd (cc)

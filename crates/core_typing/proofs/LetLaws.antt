@@ -24,8 +24,9 @@ use Rattle.pattern_rows.specs.CarriedPatterns.{IsCarriedPattern}
 use Rattle.pattern_rows.specs.Contracts.{Matches}
 use Rattle.pattern_typing.specs.Matching.{binds_of}
 use Rattle.expression_steps.specs.declared.forms.RowForm.TheVariants as form
-use Rattle.expression_steps.specs.Forms.{form_of, row_at, bound_pattern}
-use Rattle.expression_steps.proofs.CarryingLaws.{rows_same}
+use Rattle.value_forms.specs.Heads.{row_at}
+use Rattle.value_forms.proofs.Nodes.{rows_same}
+use Rattle.expression_steps.specs.Forms.{form_of, bound_pattern}
 use Rattle.binding_rows.specs.Groups.{TypedBinding, AsksNothing}
 use Rattle.binding_rows.specs.CaseScopes.{names_added}
 use Rattle.binding_rows.specs.Operands.{AsksWholeOf, RecordsRightNode, TypesRightNode, TypesTurnNode, ConcludesNode, TypesGroupNode}
@@ -57,27 +58,27 @@ pub missing_asks : (a b : Parts) → OnlyNotes a b → AsksNothing a b
 missing_asks a b h = nothing_reported a b (notes_unseen a b h) (notes_untold a b h)
 
 -- a binding as it is typed once it is concluded
-concluded_as : (a b : Parts) (env : List Entry) (o : Opened) (side : RightSide) (bound : Bound) → Concludes a b env o side bound → (let y : TypedBinding = record { names = binds_of o.matched.names.items; right = side.right.0 } in y) ≡ typed_of bound
-concluded_as a b env o side bound h = (λ i. record { names = binds_of (sym h.matched i).names.items; right = (sym h.right i).0 })
+concluded_as : (a b : Parts) (within env : List Entry) (o : Opened) (side : RightSide) (bound : Bound) → Concludes a b within env o side bound → (let y : TypedBinding = record { names = binds_of o.matched.names.items; right = side.right.0 } in y) ≡ typed_of bound
+concluded_as a b within env o side bound h = (λ i. record { names = binds_of (sym h.matched i).names.items; right = (sym h.right i).0 })
 
 -- a binding without `rec`
 pub turn_concluded : (a b d e : Parts) (env : List Entry) (x : Binding) (o : Opened) (side : RightSide) (bound : Bound) (seen then : List Name) → RecordsRightNode a b env x.number (node_view x.node.now) side.right.0 side.whole.0 → Goes a b →
     (IsCarriedPattern (bound_pattern x.number (node_view x.node.now)) → Matches b d env (pattern_of b.item (bound_pattern x.number (node_view x.node.now))) [] (binds_of o.matched.names.items) seen then o.matched.ty.0) → Goes b d → o.binding ≡ x →
-    Concludes d e env o side bound → TypesTurnNode a e env x.number (node_view x.node.now) seen then (typed_of bound)
+    Concludes d e env env o side bound → TypesTurnNode a e env x.number (node_view x.node.now) seen then (typed_of bound)
 turn_concluded a b d e env x o side bound seen then typed goes matched goes' same h =
-    subst (TypesTurnNode a e env x.number (node_view x.node.now) seen then) (concluded_as d e env o side bound h)
+    subst (TypesTurnNode a e env x.number (node_view x.node.now) seen then) (concluded_as d e env env o side bound h)
     (turn_of_node a b d e env x.number (node_view x.node.now) seen then (binds_of o.matched.names.items) side.right.0 side.whole.0 o.matched.ty.0 typed goes matched goes'
-    (subst (λ (y : Binding). AsksWholeOf d e (bound_pattern y.number (node_view y.node.now)) o.matched.ty.0 side.whole.0) same h.asked))
+    (subst (λ (y : Binding). AsksWholeOf d e env (bound_pattern y.number (node_view y.node.now)) o.matched.ty.0 side.whole.0) same h.asked))
 
 -- its verdict
-pub turn_judged : (d e : Parts) (env : List Entry) (x : Binding) (o : Opened) (side : RightSide) (bound : Bound) → o.binding ≡ x → Concludes d e env o side bound → JudgesNode env x.number (node_view x.node.now) bound.generalises
-turn_judged d e env x o side bound same h = subst (λ (y : Binding). JudgesNode env y.number (node_view y.node.now) bound.generalises) same h.judged
+pub turn_judged : (d e : Parts) (within env : List Entry) (x : Binding) (o : Opened) (side : RightSide) (bound : Bound) → o.binding ≡ x → Concludes d e within env o side bound → JudgesNode env x.number (node_view x.node.now) bound.generalises
+turn_judged d e within env x o side bound same h = subst (λ (y : Binding). JudgesNode env y.number (node_view y.node.now) bound.generalises) same h.judged
 
 -- a binding with `rec`, whose pattern is typed
-pub conclusion_done : (a b d : Parts) (env outside : List Entry) (o : Opened) (side : RightSide) (bound : Bound) → TypesRightNode a b env o.binding.number (node_view o.binding.node.now) side.right.0 side.whole.0 → Goes a b → Concludes b d outside o side bound →
+pub conclusion_done : (a b d : Parts) (env outside : List Entry) (o : Opened) (side : RightSide) (bound : Bound) → TypesRightNode a b env o.binding.number (node_view o.binding.node.now) side.right.0 side.whole.0 → Goes a b → Concludes b d env outside o side bound →
     ConcludesNode a d env o.binding.number (node_view o.binding.node.now) (opened_of o) (typed_of bound)
 conclusion_done a b d env outside o side bound typed goes h =
-    subst (ConcludesNode a d env o.binding.number (node_view o.binding.node.now) (opened_of o)) (concluded_as b d outside o side bound h)
+    subst (ConcludesNode a d env o.binding.number (node_view o.binding.node.now) (opened_of o)) (concluded_as b d env outside o side bound h)
     (conclusion_of_node a b d env o.binding.number (node_view o.binding.node.now) (opened_of o) side.right.0 side.whole.0 typed goes h.asked)
 
 -- nothing is left of a list without elements

@@ -48,15 +48,14 @@ use Rattle.record_rows.proofs.RecordNodes.{made_fields, made_record, loose_finds
 use Rattle.record_rows.proofs.ValueOperands.{value_operand_more}
 use Rattle.expression_steps.specs.declared.forms.RowForm.TheVariants as form
 use Rattle.expression_steps.specs.declared.fields.Pieces.{Pieces}
-use Rattle.expression_steps.specs.Forms.{form_of, row_at}
-use Rattle.expression_steps.specs.Heads.{label_at}
+use Rattle.value_forms.specs.Heads.{row_at, label_at}
+use Rattle.value_forms.proofs.Nodes.{rows_same, place_of_node}
+use Rattle.value_forms.proofs.LabelForms.{label_is}
+use Rattle.expression_steps.specs.Forms.{form_of}
 use Rattle.expression_steps.specs.Records.{here_of, names_written}
-use Rattle.expression_steps.proofs.CarryingLaws.{rows_same}
-use Rattle.expression_steps.proofs.Nodes.{place_of_node}
 use Rattle.core_typing.specs.Records.{AreCarriedPieces, RecordsValue, TypesMadeOr, TypesPieces}
 use Rattle.binding_steps.proofs.ParameterLaws.{read_one}
 use Rattle.core_typing.proofs.LabelLaws.{operand_loose}
-use Rattle.expression_steps.proofs.LabelForms.{label_is}
 
 record_form : (r : Row) → form_of r ≡ form.Record → r ≡ erecord_row
 record_form erecord_row e = refl
@@ -170,14 +169,14 @@ behind_done a b f e env found first w os refused goes typed goes' labels goes'' 
     loose_finds a b f e env (here_of found) (operand_view first) w (labels_at os) refused goes typed goes' (types_here found f e env os labels) goes''
 
 -- the part of a record that is updated has its type, where that is known
-has_record : (found : RecordType) (a b : Parts) (at : Place) (w : ℕ) → AsksEqualIf a b at w (node_of found) → HasRecord (here_of found) a b at w
-has_record (record_type.Known d m) a b at w h = h
-has_record record_type.Open a b at w h = h
+has_record : (found : RecordType) (a b : Parts) (env : List Entry) (at : Place) (w : ℕ) → AsksEqualIf a b env at w (node_of found) → HasRecord (here_of found) a b env at w
+has_record (record_type.Known d m) a b env at w h = h
+has_record record_type.Open a b env at w h = h
 
 -- the part of a record that is updated, and the record type of the labels
 pub part_done : (a b f e d : Parts) (env : List Entry) (found : RecordType) (wanted : Option NodeRef) (first : Operand) (w : ℕ) (os : List Numbered) → OnlyNotes a b → Goes a b →
     TypesTo b f env (λ c. (expression_of b.item (operand_view first)).typed c) (λ ch. ch.type_at (expression_of b.item (operand_view first)).node) w → Goes b f → TypesRecordType found f e env (map path_as (labels_of os)) → Goes f e → wanted ≡ node_of found →
-    AsksEqualIf e d (place_of first.span) w wanted → Goes e d → FindsUpdated a d env (here_of found) (expression_of a.item (operand_view first)) (labels_at os)
+    AsksEqualIf e d env (place_of first.span) w wanted → Goes e d → FindsUpdated a d env (here_of found) (expression_of a.item (operand_view first)) (labels_at os)
 part_done a b f e d env found wanted first w os notes goes typed goes' labels goes'' same asked goes''' = record {
   begun = b;
   mid = f;
@@ -189,7 +188,7 @@ part_done a b f e d env found wanted first w os notes goes typed goes' labels go
   goes_first = goes';
   typed = types_here found f e env os labels;
   goes_typed = goes'';
-  has = subst (λ at. HasRecord (here_of found) e d at w) (sym (expression_of_stands a.item (operand_view first)).where_it_is) (has_record found e d (place_of first.span) w (subst (AsksEqualIf e d (place_of first.span) w) same asked));
+  has = subst (λ at. HasRecord (here_of found) e d env at w) (sym (expression_of_stands a.item (operand_view first)).where_it_is) (has_record found e d env (place_of first.span) w (subst (AsksEqualIf e d env (place_of first.span) w) same asked));
   goes_has = goes''';
 }
 

@@ -10,9 +10,9 @@ use Rattle.binding_steps.specs.declared.groups.Opened.{Opened}
 use Rattle.binding_steps.specs.declared.groups.RightSide.{RightSide}
 use Rattle.binding_steps.specs.declared.groups.Bound.{Bound}
 
--- A binding whose right side and pattern are typed is concluded: its pattern has the type of the whole, and it is found whether it is generalised among these names.
-pub record Concludes (a b : Parts) (env : List Entry) (o : Opened) (side : RightSide) (bound : Bound) : Type 0 where
-  pub asked : AsksWholeOf a b (bound_pattern o.binding.number (node_view o.binding.node.now)) o.matched.ty.0 side.whole.0
+-- A binding whose right side, among the names `within`, and pattern are typed is concluded: its pattern has the type of the whole, and it is found whether it is generalised among the names `env`.
+pub record Concludes (a b : Parts) (within env : List Entry) (o : Opened) (side : RightSide) (bound : Bound) : Type 0 where
+  pub asked : AsksWholeOf a b within (bound_pattern o.binding.number (node_view o.binding.node.now)) o.matched.ty.0 side.whole.0
   pub matched : bound.matched ≡ o.matched
   pub right : bound.right ≡ side.right
   pub judged : JudgesNode env o.binding.number (node_view o.binding.node.now) bound.generalises

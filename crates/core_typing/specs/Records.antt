@@ -15,7 +15,7 @@ use Rattle.record_steps.specs.Recording.{NotesScope}
 use Rattle.record_rows.specs.ValueOperands.{IsCarriedValue}
 use Rattle.record_rows.specs.RecordExpressions.{TypesMade, TypesLoose, TypesUpdated}
 use Rattle.expression_steps.specs.declared.fields.Pieces.{Pieces}
-use Rattle.expression_steps.specs.Heads.{label_at}
+use Rattle.value_forms.specs.Heads.{label_at}
 
 -- the pieces of a record whose conditions are carried
 pub record AreCarriedPieces (p : Pieces) : Type 0 where

@@ -14,7 +14,8 @@ ghost use Rattle.syntax_tree.specs.View.{place_of, tok_of, node_view};
 ghost use Rattle.row_parts.specs.Numbered.{numbered, filled_in, operand_view, path_view};
 ghost use Rattle.typing_state.specs.Goes.{Goes};
 ghost use Rattle.expression_steps.specs.declared.forms.RowForm.{RowForm};
-ghost use Rattle.expression_steps.specs.Forms.{form_of, row_at};
+ghost use Rattle.value_forms.specs.Heads.{row_at};
+ghost use Rattle.expression_steps.specs.Forms.{form_of};
 ghost use Rattle.expression_steps.specs.Heads.{is_float_at};
 
 use crate::exprs::{type_each, type_under, typed_as};
@@ -100,7 +101,7 @@ fn with_argument(
     ensures goes { Goes at.old at.new }
 {
     let found = constructor(at, env, path, 1)?;
-    typed_as(at, first, found.argument, env, env, depth)?;
+    typed_as(at, first, found.argument, env, depth)?;
     note_head(at, number, found, env)
 }
 

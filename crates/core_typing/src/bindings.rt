@@ -24,13 +24,13 @@ use binding_steps::{
     Behind, Binding, Bound, Opened, RightSide, annotation_of, body_in, close, has_own_variables,
     limit_names, open_all, open_pattern, pattern_has, raise, type_parameters, whole, with_group,
 };
-use expression_steps::{has_parameters, is_value};
 use owned_lists::push;
 use pattern_typing::Mentioned;
 use row_parts::{Operand, first_operand, operand_in, operands, token};
 use syntax_tree::Node;
 use typing_state::{Depth, Env, NoMemory, NodeRef, Parts};
 use use_typing::{Sign, Used, note_missing, unnamed};
+use value_forms::{has_parameters, is_value};
 
 /// let b and b in e
 #[cycle(exprs)]
@@ -155,7 +155,7 @@ fn turn<'a>(
 {
     let side = recorded_right(at, binding, env, depth)?;
     let opened = open_pattern(at, binding, seen, env, depth)?;
-    conclude(at, opened, side, env, depth)
+    conclude(at, opened, side, env, env, depth)
 }
 
 /// The right side of a binding without `rec`, which is recorded before.
@@ -171,7 +171,7 @@ fn recorded_right(
     ensures goes { Goes at.old at.new }
 {
     at.note_plain(binding.number, env)?;
-    type_right(at, binding, env, env, depth)
+    type_right(at, binding, env, depth)
 }
 
 /// With `rec`: all patterns, and then the right sides, in which their names have one type each.
@@ -225,18 +225,16 @@ fn conclude_one<'a>(
     ensures general { IfOk result (λ b. JudgesNode env.now (node_of opened.entry).number (node_of opened.entry).tree b.generalises) }
     ensures goes { Goes at.old at.new }
 {
-    let side = type_right(at, opened.binding, within, env, depth)?;
-    conclude(at, opened, side, env, depth)
+    let side = type_right(at, opened.binding, within, depth)?;
+    conclude(at, opened, side, within, env, depth)
 }
 
-/// A right side: the parameters, the annotation, the expression, which has that type. A fault of the last demand shows the names
-/// of `env`.
+/// A right side: the parameters, the annotation, the expression, which has that type.
 #[cycle(exprs)]
 fn type_right(
     at: &mut Parts,
     binding: Binding<'_>,
     within: &Env,
-    env: &Env,
     depth: Depth,
 ) -> Result<RightSide, NoMemory>
     ensures carries { IfOk result (λ s. TypesRightNode at.old at.new within.now binding.entry.number (node_view binding.entry.node.now) s.right.0 s.whole.0) }
@@ -244,7 +242,7 @@ fn type_right(
 {
     let given = operands(at.alloc(), binding.node, binding.number, 1)?;
     let written = first_operand(binding.node, binding.number, 3);
-    right_of(at, &given, written, body_in(binding), within, env, depth)
+    right_of(at, &given, written, body_in(binding), within, depth)
 }
 
 /// The same by its parts.
@@ -255,7 +253,6 @@ fn right_of(
     written: Option<Operand<'_>>,
     body: Operand<'_>,
     within: &Env,
-    env: &Env,
     depth: Depth,
 ) -> Result<RightSide, NoMemory>
     ensures carries { IfOk result (λ s. TypesRightOf at.old at.new within.now (map operand_view given.now) (option_map operand_view written.entry) (operand_view body.entry) s.right.0 s.whole.0) }
@@ -263,7 +260,7 @@ fn right_of(
 {
     let (parameters, inner) = type_parameters(at, given, within, depth)?;
     let annotation = annotation_of(at, written, within, depth)?;
-    typed_body(at, body, annotation, &parameters, &inner, env, depth)
+    typed_body(at, body, annotation, &parameters, &inner, depth)
 }
 
 /// The expression of a right side, which has the type that is written.
@@ -274,30 +271,31 @@ fn typed_body(
     annotation: Option<NodeRef>,
     parameters: &[NodeRef],
     inner: &Env,
-    env: &Env,
     depth: Depth,
 ) -> Result<RightSide, NoMemory>
     ensures carries { IfOk result (λ s. TypesRightBodyOf at.old at.new inner.now (operand_view body.entry) (option_map (λ n. n.0) annotation) (numbers parameters.now) s.right.0 s.whole.0) }
     ensures goes { Goes at.old at.new }
 {
     let right = type_under(at, body, Sign::None, inner, depth.inside()?)?;
-    let whole = whole(at, body, right, annotation, parameters, env)?;
+    let whole = whole(at, body, right, annotation, parameters, inner)?;
     Ok(RightSide { right, whole })
 }
 
-/// A binding whose right side and pattern are typed: the pattern is the whole.
+/// A binding whose right side, among the names of `within`, and pattern are typed: the pattern is the whole. Whether its names are
+/// generalised is decided by `env`, outside the group.
 fn conclude<'a>(
     at: &mut Parts,
     opened: Opened<'a>,
     side: RightSide,
+    within: &Env,
     env: &Env,
     depth: Depth,
 ) -> Result<Bound<'a>, NoMemory>
-    ensures carries { IfOk result (λ b. Concludes at.old at.new env.now opened.entry side b) }
+    ensures carries { IfOk result (λ b. Concludes at.old at.new within.now env.now opened.entry side b) }
     ensures goes { Goes at.old at.new }
 {
     let generalises = is_general(at, opened.binding, env, depth)?;
-    pattern_has(at, &opened, side.whole, env, depth)?;
+    pattern_has(at, &opened, side.whole, within, depth)?;
     Ok(Bound {
         matched: opened.matched,
         right: side.right,

@@ -17,7 +17,7 @@ ghost use Rattle.binding_rows.specs.CaseCarried.{IsCase, IsCaseNode, IsFunctionN
 ghost use Rattle.typing_state.specs.Goes.{Goes};
 ghost use Rattle.match_warnings.specs.Warnings.{spans_of, warnings_of, WarnsAtLast};
 ghost use Rattle.core_typing.specs.Cases.{place_there, places_there};
-ghost use Rattle.expression_steps.specs.Forms.{row_at};
+ghost use Rattle.value_forms.specs.Heads.{row_at};
 ghost use Rattle.typing_state.specs.Notes.{IsRecorded};
 
 use crate::exprs::{type_under, typed_as};
@@ -185,8 +185,8 @@ fn case_of(
     ensures goes { Goes at.old at.new }
 {
     let inner = within_case(at, case, matched, rows, env, depth)?;
-    type_guard(at, case.guard, &inner, env, depth)?;
-    let ty = typed_as(at, case.body, bodies, &inner, env, depth)?;
+    type_guard(at, case.guard, &inner, depth)?;
+    let ty = typed_as(at, case.body, bodies, &inner, depth)?;
     Ok(Some(bodies.unwrap_or(ty)))
 }
 
@@ -196,7 +196,6 @@ fn type_guard(
     at: &mut Parts,
     guard: Option<Operand<'_>>,
     inner: &Env,
-    env: &Env,
     depth: Depth,
 ) -> Result<(), NoMemory>
     ensures carries { OnOk result (IfSome (option_map operand_view guard.entry) IsCarried → TypesGuard at.old at.new inner.now (option_map (λ o. expression_of at.old.item o) (option_map operand_view guard.entry))) }
@@ -204,7 +203,7 @@ fn type_guard(
 {
     let bool = at.constants.bool;
     if let Some(guard) = guard {
-        typed_as(at, guard, Some(bool), inner, env, depth)?;
+        typed_as(at, guard, Some(bool), inner, depth)?;
     }
     Ok(())
 }

@@ -13,7 +13,8 @@ ghost use Rattle.row_parts.specs.Numbered.{numbered, operand_view};
 ghost use Rattle.typing_state.specs.Goes.{Goes};
 ghost use Rattle.use_typing.specs.Constants.{is_negated};
 ghost use Rattle.expression_steps.specs.Leaves.{TellsAlone, TellsAs};
-ghost use Rattle.expression_steps.specs.Forms.{form_of, row_at};
+ghost use Rattle.value_forms.specs.Heads.{row_at};
+ghost use Rattle.expression_steps.specs.Forms.{form_of};
 
 use crate::apply::{application, minus, operation};
 use crate::bindings::let_in;
@@ -114,21 +115,20 @@ pub fn type_each(
     Ok(())
 }
 
-/// Types an expression in a scope, and asks that it has the wanted type, where one is wanted. A fault shows the names of `env`.
+/// Types an expression, and asks that it has the wanted type, where one is wanted.
 #[cycle(exprs)]
 pub fn typed_as(
     at: &mut Parts,
     e: Operand<'_>,
     wanted: Option<NodeRef>,
-    scope: &Env,
     env: &Env,
     depth: Depth,
 ) -> Result<NodeRef, NoMemory>
-    ensures carries { OnOk result (IsCarried (operand_view e.entry) → TypesAsIf at.old at.new scope.now (expression_of at.old.item (operand_view e.entry)) (option_map (λ w. w.0) wanted)) }
-    ensures typed { IfOk result (λ m. wanted ≡ None → IsCarried (operand_view e.entry) → TypesTo at.old at.new scope.now (λ c. (expression_of at.old.item (operand_view e.entry)).typed c) (λ ch. ch.type_at (expression_of at.old.item (operand_view e.entry)).node) m.0) }
+    ensures carries { OnOk result (IsCarried (operand_view e.entry) → TypesAsIf at.old at.new env.now (expression_of at.old.item (operand_view e.entry)) (option_map (λ w. w.0) wanted)) }
+    ensures typed { IfOk result (λ m. wanted ≡ None → IsCarried (operand_view e.entry) → TypesTo at.old at.new env.now (λ c. (expression_of at.old.item (operand_view e.entry)).typed c) (λ ch. ch.type_at (expression_of at.old.item (operand_view e.entry)).node) m.0) }
     ensures goes { Goes at.old at.new }
 {
-    let ty = type_under(at, e, Sign::None, scope, depth.inside()?)?;
+    let ty = type_under(at, e, Sign::None, env, depth.inside()?)?;
     equal_if(at, e.span, ty, wanted, env)?;
     Ok(ty)
 }

@@ -13,7 +13,8 @@ ghost use Rattle.syntax_tree.specs.View.{node_view};
 ghost use Rattle.row_parts.specs.Numbered.{numbered, operand_view};
 ghost use Rattle.typing_state.specs.Goes.{Goes};
 ghost use Rattle.expression_steps.specs.declared.forms.RowForm.{RowForm};
-ghost use Rattle.expression_steps.specs.Forms.{form_of, row_at};
+ghost use Rattle.value_forms.specs.Heads.{row_at};
+ghost use Rattle.expression_steps.specs.Forms.{form_of};
 
 use crate::exprs::{type_under, typed_as};
 use crate::plain::type_parts;
@@ -38,7 +39,7 @@ pub fn set(
     let left = operand_in(node, number, 0);
     let ty = set_part(at, left, env, depth)?;
     let right = operand_in(node, number, 2);
-    typed_as(at, right, Some(ty), env, env, depth)?;
+    typed_as(at, right, Some(ty), env, depth)?;
     let unit = at.constants.unit;
     Ok(unnamed(at, unit))
 }

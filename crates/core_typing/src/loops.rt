@@ -11,7 +11,8 @@ ghost use Rattle.syntax_tree.specs.View.{node_view};
 ghost use Rattle.row_parts.specs.Numbered.{numbered};
 ghost use Rattle.typing_state.specs.Goes.{Goes};
 ghost use Rattle.expression_steps.specs.declared.forms.RowForm.{RowForm};
-ghost use Rattle.expression_steps.specs.Forms.{form_of, row_at};
+ghost use Rattle.value_forms.specs.Heads.{row_at};
+ghost use Rattle.expression_steps.specs.Forms.{form_of};
 
 use crate::exprs::{type_under, typed_as};
 use expression_steps::loop_scope;
@@ -34,9 +35,9 @@ pub fn for_loop(
 {
     let int = at.constants.int;
     let first = operand_in(node, number, 3);
-    typed_as(at, first, Some(int), env, env, depth)?;
+    typed_as(at, first, Some(int), env, depth)?;
     let last = operand_in(node, number, 5);
-    typed_as(at, last, Some(int), env, env, depth)?;
+    typed_as(at, last, Some(int), env, depth)?;
     let scope = loop_scope(at, node, env)?;
     let body = operand_in(node, number, 7);
     type_under(at, body, Sign::None, &scope.env, depth.inside()?)?;

@@ -14,7 +14,8 @@ ghost use Rattle.syntax_tree.specs.View.{node_view};
 ghost use Rattle.row_parts.specs.Numbered.{numbered, operand_view};
 ghost use Rattle.typing_state.specs.Goes.{Goes};
 ghost use Rattle.expression_steps.specs.declared.forms.RowForm.{RowForm};
-ghost use Rattle.expression_steps.specs.Forms.{form_of, row_at};
+ghost use Rattle.value_forms.specs.Heads.{row_at};
+ghost use Rattle.expression_steps.specs.Forms.{form_of};
 
 use crate::exprs::type_under;
 use expression_steps::{behind_part, behind_parts};

@@ -18,11 +18,11 @@ ghost use Rattle.record_rows.specs.RecordExpressions.{FindsRecord, FindsUpdated,
 ghost use Rattle.expression_steps.specs.Records.{here_of, names_written};
 ghost use Rattle.core_typing.specs.Records.{AreCarriedPieces, RecordsValue, TypesMadeOr, TypesPieces};
 ghost use Rattle.typing_state.specs.Goes.{Goes};
-ghost use Rattle.expression_steps.specs.Heads.{label_at};
+ghost use Rattle.value_forms.specs.Heads.{label_at};
 
 use crate::exprs::{type_under, typed_as};
 use expression_steps::{
-    Pieces, begin_loose, complete, fields_in, label_path, pun, record_of_made, type_of_record,
+    Pieces, begin_loose, complete, fields_in, pun, record_of_made, type_of_record,
 };
 use row_parts::{Operand, WrittenPath, first_operand, operand_in, operands, token, written_path};
 use syntax_tree::{Node, Token};
@@ -31,6 +31,7 @@ use use_typing::{
     Fields, RecordType, Sign, Used, begin_field, equal_if, note_label, note_missing,
     record_of_fields, value,
 };
+use value_forms::label_path;
 
 /// { l = e }, { e with l = e }: of a record that is made, a first part that is a path to a lower-case name is a label
 #[cycle(exprs)]
@@ -265,6 +266,6 @@ fn type_value(
     ensures goes { Goes at.old at.new }
 {
     note_label(at, number, env, found, label)?;
-    typed_as(at, value, wanted, env, env, depth)?;
+    typed_as(at, value, wanted, env, depth)?;
     Ok(())
 }

@@ -59,6 +59,7 @@ added_anyhow p = record {
     owners = p.done.owners;
     clear = λ k. absurd k;
     sees = λ k. absurd k;
+    stops = λ k. absurd k;
     outside = p.done.outside;
     knows = λ k. absurd k;
     noted = p.done.noted;

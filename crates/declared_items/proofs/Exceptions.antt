@@ -15,8 +15,8 @@ use Rattle.signature_model.specs.Entries.{Entry as Named}
 use Rattle.signature_model.specs.Records.{is_some}
 use Rattle.typing_laws.proofs.Bools.{no_yes, and_both}
 use Rattle.typing_model.specs.BuiltIns.{exn_type}
-use Rattle.typing_model.specs.Contexts.{Choice, Context}
-use Rattle.typing_model.specs.Declarations.{constructor_row, exception_asks, entries_of_exception}
+use Rattle.typing_model.specs.Contexts.{Choice, Context, parameters, tell}
+use Rattle.typing_model.specs.Declarations.{constructor_row, read_optional, exception_asks, entries_of_exception}
 use Rattle.typing_model.specs.Items.{exception_components}
 use Rattle.typing_model.specs.Parts.{ConstructorPart, TypeExpression, Seen, no_names, place_of}
 use Rattle.typing_conditions.specs.Environments.{defined_at}
@@ -26,8 +26,8 @@ use Rattle.row_parts.specs.Numbered.{numbered, first_in, token_in}
 use Rattle.typing_state.specs.declared.parts.Parts.{Parts}
 use Rattle.typing_state.specs.Goes.{Goes, OnlyIndex}
 use Rattle.typing_state.specs.Notes.{NotedNameless}
-use Rattle.typing_conditions.specs.Sights.{Letters}
-use Rattle.typing_conditions.specs.Judging.{AllSeen}
+use Rattle.typing_conditions.specs.Sights.{Letters, Report}
+use Rattle.typing_conditions.specs.Judging.{AllSeen, TellAll}
 use Rattle.typing_conditions.proofs.Hiding.{none_doubtful}
 use Rattle.typing_steps.specs.Constants.{HasConstants}
 use Rattle.typing_steps.specs.States.{is_aloud, sight, fixed_of}
@@ -45,7 +45,7 @@ use Rattle.declared_rows.proofs.Continuing.{fits_declared}
 use Rattle.binding_rows.specs.ItemRows.{recorded_exception, IsExceptionNode, AreDeclared, AreOwned, none_owned, leaves_none, leaves_types, leaves_one, ItemsDone, item_at}
 use Rattle.binding_rows.specs.Outside.{Outside}
 use Rattle.binding_rows.proofs.ItemKinds.{exception_there, none_too, plain_scope, still_scoped, noted_between}
-use Rattle.binding_rows.proofs.ItemOrders.{done_one, items_treated, treated_owned, treated_sees, outside_between}
+use Rattle.binding_rows.proofs.ItemOrders.{done_one, items_treated, treated_owned, treated_sees, treated_stops, silent_stops, outside_between}
 use Rattle.first_laws.specs.Declaring.{OnlyTypes, StartsAfter}
 use Rattle.typing_rows.specs.Treating.{IsScoped}
 use Rattle.first_laws.proofs.Known.{knows_option}
@@ -117,6 +117,10 @@ module _ (b d : Parts) {G : Letters} {env : List Entry} {E : Choice → Environm
   nodes_scoped : (c : Context) → AllSeen (IsScoped (sight d) env c.env) (exception_asks c part)
   nodes_scoped = (one.treats formed is_con aloud).sees
 
+  -- where it takes no argument, nothing is reported in it
+  none_told : IsKnownException at.known k u → (c : Context) (told : List Report) → TellAll c.kept (exception_asks c part) told → told ≡ []
+  none_told known c told tells = subst (λ o. TellAll c.kept (tell part.node c ++ read_optional (record c { variables = parameters [] }) o) told) (argument_there ∙ ap (option_map (type_of b.item)) known.1) tells
+
   -- the entries that it adds
   adds_one : (c : Context) → option_map (λ (a : TypeExpression). c.chosen.type_at a.node) part.argument ≡ z.settled.type → entries_of_exception c part ≡ named_entry ∷ []
   adds_one c e =
@@ -144,6 +148,7 @@ module _ (b d : Parts) {G : Letters} {env : List Entry} {E : Choice → Environm
           clear = λ known placed. none_doubtful;
           sees = λ known. treated_sees N b.item n refl here at carried (settled_sees at on_types (own_types b at constants) (own_at b at constants) [] z.settled.settled (λ c. exception_asks c part) (λ c. refl) z.settled.reports (ap is_aloud goes.telling) (ap fixed_of goes.constants)
               (λ V fits. fits_declared (frame_declares b at constants) z.to.on.assigns z.closes V fits) N nodes_scoped);
+          stops = λ known. treated_stops N carried (silent_stops carried (none_told known));
           knows = still_known;
           owners = treated_owned N carried (owned part.argument refl);
           outside = next_starts.outside;

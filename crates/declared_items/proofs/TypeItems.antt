@@ -256,6 +256,7 @@ module _ (b d : Parts) {G : Letters} {env : List Entry} {E : Choice → Environm
           owners = owned_all whole.left (λ c. tt);
           clear = λ k placed. absurd k;
           sees = λ k. absurd k;
+          stops = λ k. absurd k;
           knows = λ k. absurd k;
           outside = outside_between last next.outside;
           noted = subst (λ U. AreNoted U d) (sym (next.older ∙ declared_there.older)) (noted_on z.numbers z.noted one.own.notes);

@@ -12,7 +12,7 @@ use Rattle.typing_model.specs.Contexts.{Context, tell_typed}
 use Rattle.typing_model.specs.BuiltIns.{float_type, constant_by}
 use Rattle.typing_model.specs.Parts as parts
 use Rattle.typing_model.specs.Parts.{Expression, Child}
-use Rattle.typing_model.specs.Expressions.{expression_row, is_false, is_of, literal_form, under_sign, name_of, operator_applied, constant_expression, typed_all, path_expression, name_form, parenthesised, begun, if_expression, update_expression, record_expression, fields_in, is_some}
+use Rattle.typing_model.specs.Expressions.{expression_row, is_of, literal_form, under_sign, name_of, operator_applied, constant_expression, typed_all, path_expression, name_form, parenthesised, begun, if_expression, update_expression, record_expression, fields_in, is_some}
 use Rattle.type_terms.specs.declared.types.NodeRef.{NodeRef}
 use Rattle.type_nodes.specs.Views.{numbers}
 use Rattle.row_parts.specs.declared.slots.Operand.{Operand}
@@ -47,14 +47,12 @@ use Rattle.type_expressions.specs.Written.{IsAsWritten, AsksWritten}
 use Rattle.expression_steps.specs.declared.operators.Operator.{Operator}
 use Rattle.expression_steps.specs.declared.forms.RowForm.{RowForm}
 use Rattle.expression_steps.specs.declared.forms.RowForm.TheVariants as form
-use Rattle.expression_steps.specs.Forms.{form_of, row_at}
-use Rattle.expression_steps.specs.Heads.{constructor_at, is_float_kind, is_float_token, is_float_in, is_float_at}
-use Rattle.expression_steps.proofs.ConstructorLaws.{operand_no, operand_is}
-use Rattle.expression_steps.specs.Operators.{IsSignOf, sign_in, is_false_kind, is_false_token, is_false_in, is_false_at, IsOperation, operator_name, operator_negates, IsOperator}
-
--- the row of a node, in both definitions
-pub rows_same : (t : Tree) → row_of t ≡ row_at t
-rows_same (node r x ps) = refl
+use Rattle.value_forms.specs.Heads.{row_at, constructor_at}
+use Rattle.value_forms.proofs.Nodes.{rows_same}
+use Rattle.value_forms.proofs.ConstructorLaws.{operand_no, operand_is}
+use Rattle.expression_steps.specs.Forms.{form_of}
+use Rattle.expression_steps.specs.Heads.{is_float_kind, is_float_token, is_float_in, is_float_at}
+use Rattle.expression_steps.specs.Operators.{IsSignOf, sign_in, IsOperation, operator_name, operator_negates, IsOperator}
 
 -- the row of a node that is made of carried rows is one
 pub row_there : (t : Tree) → IsTreeOfCarriedRows t → (ps : Forest) × IsCarriedRow (row_at t) t ps
@@ -153,76 +151,6 @@ sign_carried _ t ps e h = absurd (cc)
 
 pub sign_there : (t : Tree) → IsTreeOfCarriedRows t → row_at t ≡ eneg_row → is_sign (token_in t 0) ≡ true
 sign_there t h row = let (ps, c) = row_there t h in sign_carried (row_at t) t ps row c
-
--- the word `false`, as a form
-false_token : (start end col : ℕ) (name : List ℕ) (k : Kind) → is_false (literal_form (Some (record { kind = k; start = start; end = end; col = col; name = name }))) ≡ is_false_kind k
-false_token start end col name false_word = refl
-false_token start end col name float = refl
-false_token start end col name _ = refl
-
-false_literal : (o : Option Tok) → is_false (literal_form o) ≡ is_false_token o
-false_literal None = refl
-false_literal (Some t) = false_token t.start t.end t.col t.name t.kind
-
-path_false : (n : ℕ) (at : Place) (q : List Tok) (start end col : ℕ) (name : List ℕ) (k : Kind) → is_false (path_expression n at (record { qualifiers = q; last = Some (record { kind = k; start = start; end = end; col = col; name = name }) })).form ≡ false
-path_false n at q start end col name upper = refl
-path_false n at q start end col name lower = refl
-path_false n at q start end col name _ = refl
-
-paths_false : (n : ℕ) (at : Place) (p : parts.Written) → is_false (path_expression n at p).form ≡ false
-paths_false n at p = by p.last
-  where
-    by : (o : Option Tok) → is_false (path_expression n at (record { qualifiers = p.qualifiers; last = o })).form ≡ false
-    by None = refl
-    by (Some t) = path_false n at p.qualifiers t.start t.end t.col t.name t.kind
-
-name_false : (q : List Tok) (start end col : ℕ) (name : List ℕ) (k : Kind) → is_false (name_form (record { qualifiers = q; last = Some (record { kind = k; start = start; end = end; col = col; name = name }) })) ≡ false
-name_false q start end col name lower = refl
-name_false q start end col name _ = refl
-
-names_false : (p : parts.Written) → is_false (name_form p) ≡ false
-names_false p = by p.last
-  where
-    by : (o : Option Tok) → is_false (name_form (record { qualifiers = p.qualifiers; last = o })) ≡ false
-    by None = refl
-    by (Some t) = name_false p.qualifiers t.start t.end t.col t.name t.kind
-
-paren_false : (n : ℕ) (at : Place) (e : Expression) (o : Option parts.TypeExpression) → is_false (parenthesised n at e o).form ≡ false
-paren_false n at e None = refl
-paren_false n at e (Some t) = refl
-
-begun_false : (n : ℕ) (at : Place) (o : Option Expression) → is_false (begun n at o).form ≡ false
-begun_false n at None = refl
-begun_false n at (Some e) = refl
-
-if_false : (n : ℕ) (at : Place) (e f : Expression) (o : Option Expression) → is_false (if_expression n at e f o).form ≡ false
-if_false n at e f None = refl
-if_false n at e f (Some g) = refl
-
-either_false : (b : Bool) (x y : Expression) → is_false x.form ≡ false → is_false y.form ≡ false → is_false (if b then x else y).form ≡ false
-either_false true x y p q = p
-either_false false x y p q = q
-
-row_false : (r : Row) (n : ℕ) (at : Place) (cs : List Child) (t : Tree) → parts.token_in 0 cs ≡ token_in t 0 → is_false (expression_row r n at cs).form ≡ is_false_in r t
-unfolding expression_row
-row_false name_row n at cs t e = names_false (parts.path_in 9 0 cs)
-row_false epath_row n at cs t e = paths_false n at (parts.path_in 0 1 cs)
-row_false econst_row n at cs t e = false_literal (parts.token_in 0 cs) ∙ ap is_false_token e
-row_false eparen_row n at cs t e = paren_false n at (parts.expression_in 1 cs) (parts.first_of (parts.types_in 3 cs))
-row_false ebegin_row n at cs t e = begun_false n at (parts.first_of (parts.expressions_in 1 cs))
-row_false erecord_row n at cs t e =
-    either_false (is_some (parts.token_in 4 cs)) (update_expression n at (parts.expression_in 1 cs) (fields_in 5 cs)) (record_expression n at (parts.expression_in 1 cs) (parts.first_of (parts.expressions_in 3 cs)) (fields_in 5 cs)) refl refl
-row_false eif_row n at cs t e = if_false n at (parts.expression_in 1 cs) (parts.expression_in 3 cs) (parts.first_of (parts.expressions_in 5 cs))
-row_false _ n at cs t e = refl
-
--- an operand is the word `false` in the definitions where it is in the code
-pub false_at : (i : ℕ) (o : Numbered) → is_false (expression_of i o).form ≡ is_false_at o.part
-false_at i o = by o.number o.at o.part
-  where
-    by : (n : ℕ) (at : Place) (p : Part) → is_false (expression_of i (numbered n at p)).form ≡ is_false_at p
-    by n at (taken t) = refl
-    by n at (missing q) = refl
-    by n at (inner (node r x ps)) = row_false r (number_of i n) at (parts_of i n (node r x ps)) (node r x ps) (token_stands i n (node r x ps) 0)
 
 -- a numeral with a point
 record IsFloat (n : ℕ) (e : Expression) : Type 0 where
@@ -348,22 +276,22 @@ under_same false e = refl
 pub operator_some : (a d : Parts) (env : List Entry) (i n : ℕ) (at : Place) (t : Tree) (o : Operator) (tok : Tok) (r : Row) (m : ℕ) → row_of t ≡ r → IsOperation r (is_float_at (filled_in n t 1).part) → sign_in r t ≡ Some tok → IsOperator r tok o → IsCarried (numbered n at (inner t)) →
     TypesRow a d env (operated_asks (number_of i n) (tok_of o.named) (signed_expressions (is_negated o.sign) i (all_operands n t))) (number_of i n) m → TypesRow a d env (λ c. (row_expression i n at t).typed c) (number_of i n) m
 operator_some a d env i n at t o tok prefix_row m row is there op carried typed =
-    prefix_typed a d env i n at t m carried.formed row (λ aloud F scope G s.
+    prefix_typed a d env i n at t m carried.formed row (λ aloud F scope G its s.
     row_as (λ c. ap (λ b. operated_asks (number_of i n) (tok_of o.named) (signed_expressions b i (all_operands n t)) c) op.negates ∙ operated_as c (number_of i n) tok (tok_of o.named) tok.name (expressions_of i (all_operands n t)) op.start op.end op.name ∙
-    ap (λ x. operator_applied c (number_of i n) x (name_of x) (expressions_of i (all_operands n t))) (sym there)) (typed aloud F scope G s))
+    ap (λ x. operator_applied c (number_of i n) x (name_of x) (expressions_of i (all_operands n t))) (sym there)) (typed aloud F scope G its s))
 operator_some a d env i n at t o tok infix_row m row is there op carried typed =
-    infix_typed a d env i n at t m carried.formed row (λ aloud F scope G s.
+    infix_typed a d env i n at t m carried.formed row (λ aloud F scope G its s.
     row_as (λ c. ap (λ b. operated_asks (number_of i n) (tok_of o.named) (signed_expressions b i (all_operands n t)) c) op.negates ∙ operated_as c (number_of i n) tok (tok_of o.named) tok.name (expressions_of i (all_operands n t)) op.start op.end op.name ∙
-    ap (λ x. operator_applied c (number_of i n) x (name_of x) (expressions_of i (all_operands n t))) (sym there)) (typed aloud F scope G s))
+    ap (λ x. operator_applied c (number_of i n) x (name_of x) (expressions_of i (all_operands n t))) (sym there)) (typed aloud F scope G its s))
 operator_some a d env i n at t o tok eneg_row m row is there op carried typed =
     let e = expression_of i (filled_in n t 1) in
     let sign = sign_is tok.name (ap is_sign (sym there) ∙ sign_there t carried.rows (sym (rows_same t) ∙ row)) in
-    minus_typed a d env i n at t m carried.formed row (no_float i (filled_in n t 1) (filled_carried n at t 1 (ap (λ r. sort_in r 1) row) carried).rows is) (λ aloud F scope G s.
+    minus_typed a d env i n at t m carried.formed row (no_float i (filled_in n t 1) (filled_carried n at t 1 (ap (λ r. sort_in r 1) row) carried).rows is) (λ aloud F scope G its s.
     row_as (λ c. ap (λ b. operated_asks (number_of i n) (tok_of o.named) (signed_expressions b i (all_operands n t)) c) (op.negates ∙ sign.negates) ∙
     ap (λ os. operated_asks (number_of i n) (tok_of o.named) (signed_expressions (bytes_eq tok.name (codes "-")) i os) c) (minus_operand n t carried.formed row) ∙
     ap (λ x. operated_asks (number_of i n) (tok_of o.named) (x ∷ []) c) (under_same (bytes_eq tok.name (codes "-")) e) ∙
     operated_as c (number_of i n) tok (tok_of o.named) (codes "~" ++ tok.name) (under_sign (Some tok) e ∷ []) op.start op.end (op.name ∙ sign.name) ∙
-    ap (λ x. operator_applied c (number_of i n) x (codes "~" ++ name_of x) (under_sign x e ∷ [])) (sym there)) (typed aloud F scope G s))
+    ap (λ x. operator_applied c (number_of i n) x (codes "~" ++ name_of x) (under_sign x e ∷ [])) (sym there)) (typed aloud F scope G its s))
 operator_some a d env i n at t o tok _ m row is there op carried typed = absurd is
 
 under_sign_none : (e : Expression) → under_sign None e ≡ e
@@ -373,13 +301,13 @@ under_sign_none e = refl
 pub operator_none : (a d : Parts) (env : List Entry) (i n : ℕ) (at : Place) (t : Tree) (r : Row) (m : ℕ) → row_of t ≡ r → IsOperation r (is_float_at (filled_in n t 1).part) → sign_in r t ≡ None → IsCarried (numbered n at (inner t)) →
     TypesRow a d env (λ c. typed_all c (expressions_of i (all_operands n t))) (number_of i n) m → TypesRow a d env (λ c. (row_expression i n at t).typed c) (number_of i n) m
 operator_none a d env i n at t prefix_row m row is none carried typed =
-    prefix_typed a d env i n at t m carried.formed row (λ aloud F scope G s. row_as (λ c. ap (λ x. operator_applied c (number_of i n) x (name_of x) (expressions_of i (all_operands n t))) (sym none)) (typed aloud F scope G s))
+    prefix_typed a d env i n at t m carried.formed row (λ aloud F scope G its s. row_as (λ c. ap (λ x. operator_applied c (number_of i n) x (name_of x) (expressions_of i (all_operands n t))) (sym none)) (typed aloud F scope G its s))
 operator_none a d env i n at t infix_row m row is none carried typed =
-    infix_typed a d env i n at t m carried.formed row (λ aloud F scope G s. row_as (λ c. ap (λ x. operator_applied c (number_of i n) x (name_of x) (expressions_of i (all_operands n t))) (sym none)) (typed aloud F scope G s))
+    infix_typed a d env i n at t m carried.formed row (λ aloud F scope G its s. row_as (λ c. ap (λ x. operator_applied c (number_of i n) x (name_of x) (expressions_of i (all_operands n t))) (sym none)) (typed aloud F scope G its s))
 operator_none a d env i n at t eneg_row m row is none carried typed =
     let e = expression_of i (filled_in n t 1) in
-    minus_typed a d env i n at t m carried.formed row (no_float i (filled_in n t 1) (filled_carried n at t 1 (ap (λ r. sort_in r 1) row) carried).rows is) (λ aloud F scope G s.
-    row_as (λ c. ap (λ os. typed_all c (expressions_of i os)) (minus_operand n t carried.formed row) ∙ ap (λ x. operator_applied c (number_of i n) x (codes "~" ++ name_of x) (under_sign x e ∷ [])) (sym none)) (typed aloud F scope G s))
+    minus_typed a d env i n at t m carried.formed row (no_float i (filled_in n t 1) (filled_carried n at t 1 (ap (λ r. sort_in r 1) row) carried).rows is) (λ aloud F scope G its s.
+    row_as (λ c. ap (λ os. typed_all c (expressions_of i os)) (minus_operand n t carried.formed row) ∙ ap (λ x. operator_applied c (number_of i n) x (codes "~" ++ name_of x) (under_sign x e ∷ [])) (sym none)) (typed aloud F scope G its s))
 operator_none a d env i n at t _ m row is none carried typed = absurd is
 
 -- an operand that is read from a list of carried ones
@@ -419,7 +347,7 @@ parts_step a b d env r os k j x ms more m lt e place longer goes first typed all
     (subst (λ i. TypesPart b d env r j (expression_of i (operand_view x)) m.0) goes.item (typed (read_carried os k x lt e all)))
 
 -- an argument, which may be directly under a minus, has a type
-pub argument_typed : (a b d : Parts) (env : List Entry) (negated : Bool) (i : ℕ) (o : Numbered) (found wanted : ℕ) → TypesTo a b env (λ c. (under_minus negated (expression_of i o)).typed c) (λ ch. ch.type_at (expression_of i o).node) found → Goes a b → AsksEqual b d o.at found wanted →
+pub argument_typed : (a b d : Parts) (env : List Entry) (negated : Bool) (i : ℕ) (o : Numbered) (found wanted : ℕ) → TypesTo a b env (λ c. (under_minus negated (expression_of i o)).typed c) (λ ch. ch.type_at (expression_of i o).node) found → Goes a b → AsksEqual b d env o.at found wanted →
     TypesAs a d env (under_minus negated (expression_of i o)) wanted
 argument_typed a b d env true i o found wanted typed goes asked = types_as a b d env (under_minus true (expression_of i o)) o.at found wanted (expression_of_stands i o).where_it_is typed goes asked
 argument_typed a b d env false i o found wanted typed goes asked = types_as a b d env (expression_of i o) o.at found wanted (expression_of_stands i o).where_it_is typed goes asked
@@ -551,7 +479,7 @@ unknown_later a b d env at os head u known each goes ends =
     (later_unknown a b d env at (expressions_of a.item os) head.ty.0 u.0 each goes (subst (λ i. EndsUnknown b d (expressions_of i os) head.ty.0 u.0) goes.item ends))
 
 -- an expression that has the type that may be wanted
-pub typed_as_if : (a b d : Parts) (env : List Entry) (o : Numbered) (found : ℕ) (wanted : Option NodeRef) → TypesTo a b env (λ c. (expression_of a.item o).typed c) (λ ch. ch.type_at (expression_of a.item o).node) found → Goes a b → AsksEqualIf b d o.at found wanted →
+pub typed_as_if : (a b d : Parts) (env : List Entry) (o : Numbered) (found : ℕ) (wanted : Option NodeRef) → TypesTo a b env (λ c. (expression_of a.item o).typed c) (λ ch. ch.type_at (expression_of a.item o).node) found → Goes a b → AsksEqualIf b d env o.at found wanted →
     TypesAsIf a d env (expression_of a.item o) (option_map (λ (w : NodeRef). w.0) wanted)
 typed_as_if a b d env o found wanted typed goes asked = types_as_if a b d env (expression_of a.item o) o.at found wanted (expression_of_stands a.item o).where_it_is typed goes asked
 

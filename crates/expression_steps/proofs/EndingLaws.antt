@@ -59,16 +59,12 @@ use denote.Ref.{Bor}
 use Rattle.row_parts.specs.declared.paths.WrittenPath.{WrittenPath}
 use Rattle.typing_rows.proofs.Ending.{reads_at, none_at, later_none, later_more, later_all, ends_still, ends_unit, ends_any, row_of_type, ends_cons, ends_then, ends_else, ends_list, ends_list_none}
 use Rattle.expression_steps.specs.declared.forms.RowForm.TheVariants as form
-use Rattle.expression_steps.specs.Forms.{Value, anything, form_of, row_at, value_in}
-use Rattle.expression_steps.specs.Heads.{constructor_in}
+use Rattle.value_forms.specs.Heads.{row_at, constructor_in, is_false_at}
+use Rattle.value_forms.proofs.Nodes.{row_of_node, row_named, rows_same, parts_count}
+use Rattle.value_forms.proofs.FalseLaws.{false_at}
+use Rattle.expression_steps.specs.Forms.{Value, anything, form_of, value_in}
 use Rattle.expression_steps.specs.Leaves.{TellsValue}
-use Rattle.expression_steps.specs.Operators.{is_false_at}
-use Rattle.expression_steps.proofs.Nodes.{row_of_node}
-use Rattle.expression_steps.proofs.CarryingLaws.{rows_same, number_here, number_missing, false_at}
-
--- the row of a node of the code
-pub row_named : (nd : Node) (r : RowName) → (out-Node nd).row ≡ r → row_at (node_view nd) ≡ row_of r
-row_named nd r e = row_of_node nd ∙ ap row_of e
+use Rattle.expression_steps.proofs.CarryingLaws.{number_here, number_missing}
 
 -- the end of a field
 pub field_end : (nd : Node) (a b : Parts) (env : List Entry) (es : List Expression) (ms : List ℕ) (m : ℕ) → (out-Node nd).row ≡ name.Field → EndsRow a b env (field_ends (path_of (path_in (node_view nd) 2 3)) es) es ms m → EndsRow a b env (ordered_end (row_at (node_view nd)) (node_view nd) es) es ms m
@@ -188,11 +184,6 @@ leaf_hole nd n at carried is none a b c =
     let (ps, h) = carried_there (node_view nd) carried.rows in
     rows_same (node_view nd) ∙ row_of_node nd ∙ hole_by (out-Node nd).row (node_view nd) ps (subst (λ r. IsCarriedRow r (node_view nd) ps) (row_of_node nd) h) (ap form_of (sym (row_of_node nd)) ∙ is) (subst (λ r. constructor_in r (node_view nd) ≡ None) (row_of_node nd) none) a b c
 
--- as many expressions as parts
-pub parts_count : (i : ℕ) (os : List Operand) → length (expressions_of i (map operand_view os)) ≡ length os
-parts_count i [] = refl
-parts_count i (o ∷ os) = ap suc (parts_count i os)
-
 -- the element at a place, and what is left there
 pub record HeadAt {A : Type 0} (xs : List A) (k : ℕ) : Type 0 where
   pub head : A
@@ -238,15 +229,15 @@ later_done a b env os ms k wanted le first =
 
 -- what is said of a list of parts where there is none, holds where there is no node
 pub ends_empty : (a b : Parts) (env : List Entry) (end : List Expression → Context → ℕ → List Condition) (es : List Expression) (ms : List ℕ) (m : ℕ) → slice_get ms 0 ≡ None → EndsRow a b env (end []) [] ms m → EndsRow a b env (end es) es ms m
-ends_empty a b env end es ms m none ends = λ aloud F scope G n s all. by es F scope G n aloud s all (none_at es ms 0 all none)
+ends_empty a b env end es ms m none ends = λ aloud F scope G n its s all. by es F scope G n aloud its s all (none_at es ms 0 all none)
   where
-    by : (es : List Expression) (F : Frame) (scope : Scope) (G : Letters) (n : ℕ) → is_aloud a.telling ≡ true → Surrounds as_declared F (sight a) G env scope → AllMean F (sight a) G (types_at es) ms → slice_get es 0 ≡ None → RowCarried F scope (λ c. end es c n) (sight a) G (sight b) n m
-    by [] F scope G n aloud s all e = ends aloud F scope G n s all
-    by (x ∷ es) F scope G n aloud s all e = absurd (cc)
+    by : (es : List Expression) (F : Frame) (scope : Scope) (G : Letters) (n : ℕ) → is_aloud a.telling ≡ true → scope.own n ≡ true → Surrounds as_declared F (sight a) G env scope → AllMean F (sight a) G (types_at es) ms → slice_get es 0 ≡ None → RowCarried F scope (λ c. end es c n) (sight a) G (sight b) n m
+    by [] F scope G n aloud its s all e = ends aloud F scope G n its s all
+    by (x ∷ es) F scope G n aloud its s all e = absurd (cc)
 
 -- where there is a node there is a part
 pub ends_there : (a b : Parts) (env : List Entry) (end : Context → ℕ → List Condition) (es : List Expression) (ms : List ℕ) (i k m : ℕ) → slice_get ms i ≡ Some k → slice_get es i ≡ None → EndsRow a b env end es ms m
-ends_there a b env end es ms i k m there none = λ aloud F scope G n s all.
+ends_there a b env end es ms i k m there none = λ aloud F scope G n its s all.
     let r = reads_at es ms i k all there in
     absurd (no_part r.part r.here)
   where
@@ -292,12 +283,12 @@ then_ends a b env (e ∷ f ∷ g ∷ gs) ms branch less here asked = absurd (ome
 
 -- `if` without its branch
 pub if_empty : (a b : Parts) (env : List Entry) (es : List Expression) (ms : List ℕ) (m : ℕ) → slice_get ms 1 ≡ None → TypesAny a b m → EndsRow a b env (end_of eif_row es) es ms m
-if_empty a b env es ms m none any = λ aloud F scope G n s all. by es F scope G n aloud s all (none_at es ms 1 all none)
+if_empty a b env es ms m none any = λ aloud F scope G n its s all. by es F scope G n aloud its s all (none_at es ms 1 all none)
   where
-    by : (es : List Expression) (F : Frame) (scope : Scope) (G : Letters) (n : ℕ) → is_aloud a.telling ≡ true → Surrounds as_declared F (sight a) G env scope → AllMean F (sight a) G (types_at es) ms → slice_get es 1 ≡ None → RowCarried F scope (λ c. end_of eif_row es c n) (sight a) G (sight b) n m
-    by [] F scope G n aloud s all e = ends_any a b env (end_of eif_row []) [] ms m any (λ c n. refl) aloud F scope G n s all
-    by (x ∷ []) F scope G n aloud s all e = ends_any a b env (end_of eif_row (x ∷ [])) (x ∷ []) ms m any (λ c n. refl) aloud F scope G n s all
-    by (x ∷ y ∷ es) F scope G n aloud s all e = absurd (cc)
+    by : (es : List Expression) (F : Frame) (scope : Scope) (G : Letters) (n : ℕ) → is_aloud a.telling ≡ true → scope.own n ≡ true → Surrounds as_declared F (sight a) G env scope → AllMean F (sight a) G (types_at es) ms → slice_get es 1 ≡ None → RowCarried F scope (λ c. end_of eif_row es c n) (sight a) G (sight b) n m
+    by [] F scope G n aloud its s all e = ends_any a b env (end_of eif_row []) [] ms m any (λ c n. refl) aloud F scope G n its s all
+    by (x ∷ []) F scope G n aloud its s all e = ends_any a b env (end_of eif_row (x ∷ [])) (x ∷ []) ms m any (λ c n. refl) aloud F scope G n its s all
+    by (x ∷ y ∷ es) F scope G n aloud its s all e = absurd (cc)
 
 -- what holds anyway holds of a result
 pub on_any : {A E : Type 0} (r : Result A E) (Q : Type 0) → Q → OnOk r Q
@@ -384,7 +375,7 @@ last_reads (x ∷ y ∷ es) (k ∷ j ∷ ms) m (one_means h hs) e = let r = last
 
 -- e; e
 pub seq_last : (a : Parts) (env : List Entry) (es : List Expression) (ms : List ℕ) (m : ℕ) → last_of ms ≡ Some m → EndsRow a a env (end_of eseq_row es) es ms m
-seq_last a env es ms m last = λ aloud F scope G n s all.
+seq_last a env es ms m last = λ aloud F scope G n its s all.
     let r = last_reads es ms m all last in
     row_of_type (λ c. []) (λ ch. ch.type_at r.part.node) carried_refl r.means (λ c. ap (last_asks c n) (sym r.here))
 

@@ -15,8 +15,8 @@ use Rattle.typing_state.proofs.Silence.{index_silent}
 use Rattle.use_typing.proofs.Telling.{bound_stays, range_stays, use_stays}
 use Rattle.expression_steps.specs.declared.forms.RowForm.{RowForm}
 use Rattle.expression_steps.specs.declared.forms.RowForm.TheVariants as form
-use Rattle.expression_steps.specs.Forms.{Value, named, constant, anything, value_in, form_of, row_at}
-use Rattle.expression_steps.specs.Heads.{constructor_in}
+use Rattle.value_forms.specs.Heads.{row_at, constructor_in}
+use Rattle.expression_steps.specs.Forms.{Value, named, constant, anything, value_in, form_of}
 use Rattle.expression_steps.specs.Leaves.{TellsAlone, TellsAs, TellsEither, TellsValue}
 
 value_stays : (v : Value) (negated : Bool) (env : List Entry) (a b c : Parts) → TellsValue v negated a b env → Silent b c → TellsValue v negated a c env

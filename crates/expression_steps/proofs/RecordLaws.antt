@@ -31,7 +31,6 @@ use Rattle.typing_state.specs.Notes.{Noted, NotedNameless}
 use Rattle.typing_conditions.proofs.Carried.{carried_refl, carried_trans}
 use Rattle.typing_steps.specs.Typing.{path_as, TypesAny}
 use Rattle.typing_steps.specs.Warning.{OnlyNotes}
-use Rattle.typing_steps.proofs.Still.{plain_notes}
 use Rattle.use_typing.specs.declared.record_types.RecordType.{RecordType}
 use Rattle.use_typing.specs.declared.record_types.RecordType.TheVariants as record_type
 use Rattle.use_typing.specs.declared.uses.Used.{Used}

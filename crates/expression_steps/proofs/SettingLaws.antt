@@ -30,9 +30,11 @@ use Rattle.typing_rows.proofs.Going.{all_carried, filled_carried}
 use Rattle.typing_rows.proofs.Setting.{field_settable, part_settable, set_typed}
 use Rattle.typing_rows.proofs.Looped.{for_typed}
 use Rattle.expression_steps.specs.declared.forms.RowForm.TheVariants as form
-use Rattle.expression_steps.specs.Forms.{form_of, row_at}
+use Rattle.value_forms.specs.Heads.{row_at}
+use Rattle.value_forms.proofs.Nodes.{rows_same}
+use Rattle.expression_steps.specs.Forms.{form_of}
 use Rattle.expression_steps.specs.Heads.{is_field_row, is_field_at}
-use Rattle.expression_steps.proofs.CarryingLaws.{rows_same, by_set, by_loop}
+use Rattle.expression_steps.proofs.CarryingLaws.{by_set, by_loop}
 
 -- forms that aren't that of a field ask nothing of a label
 module _ (c : Context) (k : ℕ) where

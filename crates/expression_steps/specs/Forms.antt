@@ -1,15 +1,11 @@
 -- How the rows of expressions are typed: their forms, and what a row without parts is.
 use Rattle.std.specs.Prelude.{ℕ, Option}
 use Rattle.token_model.specs.Kinds.{Tok}
-use Rattle.tree_model.specs.Trees.{Tree, node}
+use Rattle.tree_model.specs.Trees.{Tree}
 use Rattle.tree_model.specs.Rows.{Row, name_row, econ_row, epath_row, econst_row, hole_row, eparen_row, erecord_row, prefix_row, eapp_row, efor_row, eneg_row, infix_row, eset_row, elet_row, ematch_row, etry_row, efun_row, efunction_row}
 use Rattle.row_parts.specs.Numbered.{Numbered, Written, filled_in, token_in, path_in}
 use Rattle.expression_steps.specs.declared.forms.RowForm.{RowForm}
 use Rattle.expression_steps.specs.declared.forms.RowForm.TheVariants as form
-
--- the row of a node
-abbrev pub row_at : Tree → Row
-row_at (node r x ps) = r
 
 -- the pattern of a binding
 abbrev pub bound_pattern : ℕ → Tree → Numbered

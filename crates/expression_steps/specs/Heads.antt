@@ -1,40 +1,10 @@
--- What a part of an expression is: a constructor alone, a label, a numeral with a point, or a field.
+-- What else a part of an expression is: a numeral with a point, or a field.
 use Rattle.std.specs.Prelude.{Bool, true, false, Option, Some, None}
-use Rattle.token_model.specs.Kinds.{Tok, Kind, lower, upper, float}
+use Rattle.token_model.specs.Kinds.{Tok, Kind, float}
 use Rattle.tree_model.specs.Trees.{Tree, Part, taken, inner, missing}
-use Rattle.tree_model.specs.Rows.{Row, name_row, econ_row, epath_row, econst_row, field_row}
-use Rattle.row_parts.specs.Numbered.{Written, token_in, path_in}
-use Rattle.expression_steps.specs.Forms.{row_at}
-
--- a path where its last token is of the one kind
-abbrev pub if_upper : Written → Kind → Option Written
-if_upper p upper = Some p
-if_upper p _ = None
-
--- the same of the other
-abbrev pub if_lower : Written → Kind → Option Written
-if_lower p lower = Some p
-if_lower p _ = None
-
--- a path to a constructor
-abbrev pub upper_path : Written → Option Written
-upper_path p = elim p.last [ None ↦ None | Some t ↦ if_upper p t.kind ]
-
--- a path to a value or a label
-abbrev pub lower_path : Written → Option Written
-lower_path p = elim p.last [ None ↦ None | Some t ↦ if_lower p t.kind ]
-
--- A, M.A
-abbrev pub constructor_in : Row → Tree → Option Written
-constructor_in econ_row t = Some (path_in t 9 0)
-constructor_in epath_row t = upper_path (path_in t 0 1)
-constructor_in _ t = None
-
--- l, M.l
-abbrev pub label_in : Row → Tree → Option Written
-label_in name_row t = lower_path (path_in t 9 0)
-label_in epath_row t = lower_path (path_in t 0 1)
-label_in _ t = None
+use Rattle.tree_model.specs.Rows.{Row, econst_row, field_row}
+use Rattle.row_parts.specs.Numbered.{token_in}
+use Rattle.value_forms.specs.Heads.{row_at}
 
 -- the kind of a numeral with a point
 abbrev pub is_float_kind : Kind → Bool
@@ -50,18 +20,6 @@ is_float_token (Some t) = is_float_kind t.kind
 abbrev pub is_float_in : Row → Tree → Bool
 is_float_in econst_row t = is_float_token (token_in t 0)
 is_float_in _ t = false
-
--- the path of a part that is a constructor alone
-abbrev pub constructor_at : Part → Option Written
-constructor_at (taken t) = None
-constructor_at (inner t) = constructor_in (row_at t) t
-constructor_at (missing at) = None
-
--- the path of a part that is a label
-abbrev pub label_at : Part → Option Written
-label_at (taken t) = None
-label_at (inner t) = label_in (row_at t) t
-label_at (missing at) = None
 
 -- whether a part is a numeral with a point
 abbrev pub is_float_at : Part → Bool

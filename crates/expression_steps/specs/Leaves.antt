@@ -10,8 +10,8 @@ use Rattle.use_typing.specs.Constants.{TellsRange}
 use Rattle.use_typing.specs.Uses.{TellsBound, TellsUse}
 use Rattle.expression_steps.specs.declared.forms.RowForm.{RowForm}
 use Rattle.expression_steps.specs.declared.forms.RowForm.TheVariants as form
-use Rattle.expression_steps.specs.Forms.{Value, named, constant, anything, value_in, form_of, row_at}
-use Rattle.expression_steps.specs.Heads.{constructor_in}
+use Rattle.value_forms.specs.Heads.{row_at, constructor_in}
+use Rattle.expression_steps.specs.Forms.{Value, named, constant, anything, value_in, form_of}
 
 -- a value: `bound` of a name, `range` of a constant
 abbrev pub TellsValue : Value → (negated : Bool) → (old new : Parts) → List Entry → Type 0

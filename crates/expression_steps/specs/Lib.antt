@@ -4,4 +4,3 @@ pub mod Heads
 pub mod Leaves
 pub mod Operators
 pub mod Records
-pub mod RecordValues

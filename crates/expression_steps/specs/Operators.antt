@@ -1,41 +1,19 @@
--- Tokens that decide what a row asks: the operator of a row, and the word `false`.
-use Rattle.std.specs.Prelude.{◌≡◌, Bool, true, false, not, codes, Option, Some, None, if◌then◌else◌}
+-- The token that decides what a row asks: its operator.
+use Rattle.std.specs.Prelude.{◌≡◌, Bool, false, not, codes, Option, Some, None, if◌then◌else◌}
 use Rattle.std.specs.Str.{bytes_eq}
-use Rattle.token_model.specs.Kinds.{Tok, Kind, false_word}
-use Rattle.tree_model.specs.Rows.{Row, econst_row, prefix_row, eneg_row, infix_row}
-use Rattle.tree_model.specs.Trees.{Tree, Part, taken, inner, missing}
+use Rattle.token_model.specs.Kinds.{Tok}
+use Rattle.tree_model.specs.Rows.{Row, prefix_row, eneg_row, infix_row}
+use Rattle.tree_model.specs.Trees.{Tree}
 use Rattle.signature_model.specs.Declarations.{Name}
 use Rattle.syntax_tree.specs.View.{tok_of}
 use Rattle.row_parts.specs.Numbered.{token_in}
 use Rattle.use_typing.specs.Constants.{is_negated}
 use Rattle.expression_steps.specs.declared.operators.Operator.{Operator}
-use Rattle.expression_steps.specs.Forms.{row_at}
 
 -- the operator of a row
 abbrev pub sign_in : Row → Tree → Option Tok
 sign_in infix_row t = token_in t 1
 sign_in _ t = token_in t 0
-
--- the kind of the word `false`
-abbrev pub is_false_kind : Kind → Bool
-is_false_kind false_word = true
-is_false_kind _ = false
-
--- whether a token is the word `false`
-abbrev pub is_false_token : Option Tok → Bool
-is_false_token None = false
-is_false_token (Some t) = is_false_kind t.kind
-
--- the word `false`, as a constant
-abbrev pub is_false_in : Row → Tree → Bool
-is_false_in econst_row t = is_false_token (token_in t 0)
-is_false_in _ t = false
-
--- whether a part is it
-abbrev pub is_false_at : Part → Bool
-is_false_at (taken t) = false
-is_false_at (inner t) = is_false_in (row_at t) t
-is_false_at (missing at) = false
 
 -- a row that is an operator with its arguments; a minus is none over a numeral with a point
 abbrev pub IsOperation : Row → Bool → Type 0

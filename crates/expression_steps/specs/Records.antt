@@ -32,4 +32,4 @@ pub record TakesName (a b : Parts) (env : List Entry) (t : Tok) (wanted : Option
   pub node : ℕ
   pub typed : (n k : ℕ) → TypesOwn a used env (λ c type. value_asks c n k (record { qualifiers = []; last = Some t }) type) node
   pub goes : Goes a used
-  pub equal : AsksEqualIf used b (place_of t) node wanted
+  pub equal : AsksEqualIf used b env (place_of t) node wanted

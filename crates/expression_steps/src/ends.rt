@@ -15,13 +15,13 @@ ghost use Rattle.syntax_tree.specs.View.{node_view};
 ghost use Rattle.row_parts.specs.Numbered.{operand_view, path_in, path_view};
 ghost use Rattle.typing_state.specs.Goes.{Goes};
 ghost use Rattle.expression_steps.specs.Heads.{is_field_at};
-ghost use Rattle.expression_steps.specs.Forms.{row_at};
+ghost use Rattle.value_forms.specs.Heads.{row_at};
 
-use crate::values::is_false;
 use row_parts::{Operand, WrittenPath, written_path};
 use syntax_tree::{Node, RowName};
 use typing_state::{Env, NoMemory, NodeRef, Parts};
 use use_typing::{Used, field_label, type_or_var, unnamed};
+use value_forms::is_false;
 
 /// What is asked behind all parts of a row: its type and its names.
 pub fn behind_parts(

@@ -15,8 +15,8 @@ ghost use Rattle.use_typing.specs.Constants.{is_negated};
 ghost use Rattle.use_typing.specs.Uses.{TellsUse};
 ghost use Rattle.expression_steps.specs.declared.forms.RowForm.{RowForm};
 ghost use Rattle.expression_steps.specs.Leaves.{TellsLeaf, TellsValue};
-ghost use Rattle.expression_steps.specs.Forms.{form_of, row_at, value_in};
-ghost use Rattle.expression_steps.specs.Heads.{constructor_at, constructor_in, upper_path};
+ghost use Rattle.value_forms.specs.Heads.{row_at, constructor_at, constructor_in, upper_path};
+ghost use Rattle.expression_steps.specs.Forms.{form_of, value_in};
 
 use row_parts::{Operand, WrittenPath, token, written_path};
 use syntax_tree::{Node, RowName, TokenKind};

@@ -14,7 +14,7 @@ ghost use Rattle.typing_state.specs.Goes.{Goes};
 ghost use Rattle.env_table.specs.declared.entries.Kind.{Kind};
 ghost use Rattle.use_typing.specs.Uses.{TellsBound};
 ghost use Rattle.expression_steps.specs.Heads.{is_float_at, is_float_token};
-ghost use Rattle.expression_steps.specs.Forms.{row_at};
+ghost use Rattle.value_forms.specs.Heads.{row_at};
 
 use row_parts::{Operand, WrittenPath, token};
 use syntax_tree::{Node, RcStr, RowName, Token, TokenKind};

@@ -9,13 +9,12 @@ ghost use Rattle.typing_conditions.specs.Surroundings.{IsEntry};
 ghost use Rattle.typing_rows.specs.Asked.{wants_bool};
 ghost use Rattle.typing_rows.specs.Contracts.{AsksBehind, AsksBool};
 ghost use Rattle.typing_rows.specs.Loops.{IsLoopScope};
-ghost use Rattle.expression_steps.specs.Operators.{is_false_at};
+ghost use Rattle.value_forms.specs.Heads.{is_false_at};
 ghost use Rattle.syntax_tree.specs.Names.{row_of};
 ghost use Rattle.syntax_tree.specs.View.{node_view, tok_of};
 ghost use Rattle.row_parts.specs.Numbered.{operand_view, token_in};
 ghost use Rattle.typing_state.specs.Goes.{Goes};
 
-use crate::values::is_false;
 use env_table::{Entry, Kind, Place, What};
 use owned_lists::owned;
 use row_parts::{Operand, token};
@@ -23,6 +22,7 @@ use std::rc::Rc;
 use syntax_tree::{Node, RowName, Token};
 use typing_state::{Env, NoMemory, NodeRef, Parts};
 use use_typing::Names;
+use value_forms::is_false;
 
 /// The environment of the body of a loop, and what the loop's own name stands for.
 #[derive(Drop)]

@@ -13,6 +13,7 @@ use Rattle.typing_model.specs.Typings.{conditions_of, IsKept, IsPrincipal}
 use Rattle.typing_model.specs.First.{program_items, IsFirst}
 use Rattle.typing_model.specs.Plain.{has_values_alone}
 use Rattle.fault_model.specs.Values.{are_bare}
+use Rattle.fault_model.specs.Messages.{IsMessageAt}
 
 -- the kind of fault that a complaint is
 abbrev pub kind_of_complaint : Complaint → TyperKind
@@ -97,8 +98,15 @@ pub record IsOfValues (text : List ℕ) : Type 0 where
   pub lexed : Lex text tokens
   pub items : AreOfValues (program_items tokens)
 
--- What of the faults of items is fixed by a principal typing with the kept demands: the place and the kind of each, and the message of those on names, in the order of the demands.
-pub record AreRefused (items : List Tree) (faults : List Refused) : Type 0 where
+-- a message at a place is that of a demand there that two types are one, which isn't kept
+pub record IsTold (env : Environment) (items : List Tree) (kept : Site → Bool) (at : Place) (message : List ℕ) : Type 0 where
+  pub site : Site
+  pub refused : kept site ≡ false
+  pub says : IsMessageAt env items kept site at message
+
+-- What of the faults of items is fixed by a principal typing with the kept demands: but for warnings the place and the kind of each, and the message of those on names, in the order of the demands;
+-- and the message of each that two types differ.
+pub record AreRefused (items : List Tree) (faults : List TyperFault) : Type 0 where
   pub env : Environment
   pub first : IsFirst env
   pub kept : Site → Bool
@@ -106,4 +114,5 @@ pub record AreRefused (items : List Tree) (faults : List Refused) : Type 0 where
   pub choice : Choice
   pub principal : IsPrincipal env items kept choice.type_at
   pub holds : AllHold kept (conditions_of env items kept choice)
-  pub are : faults ≡ refused_of kept (conditions_of env items kept choice)
+  pub are : standing faults ≡ refused_of kept (conditions_of env items kept choice)
+  pub told : All (λ f. f.kind ≡ fault.equal → IsTold env items kept f.span f.message) faults

@@ -36,6 +36,17 @@ abbrev pub shifted_by : ℕ → Tallies → Tallies
 shifted_by zero c = c
 shifted_by (suc n) c = shifted_by n (shifted_more c)
 
+-- how many tokens of an item are kept: those from its first cut token on, unless it has a fault
+abbrev pub kept_of : Mark → ℕ
+kept_of sound = 0
+kept_of (held s ts) = length ts
+kept_of marked = 0
+
+-- the same of the open item, if there is one
+abbrev pub kept_in : Option Item → ℕ
+kept_in None = 0
+kept_in (Some i) = kept_of i.mark
+
 -- how many tokens are taken at a token in an item of which this is known with the token: the token, or those from the first cut token to it
 abbrev pub shifts_sound : Option Fault → Mark → ℕ
 shifts_sound None mark = 1

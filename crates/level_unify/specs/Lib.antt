@@ -4,6 +4,7 @@ pub mod Plans
 pub mod Solutions
 pub mod Limits
 pub mod Unification
+pub mod Messages
 pub mod Generalising
 pub mod Copies
 pub mod Instances

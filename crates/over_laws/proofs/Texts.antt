@@ -6,7 +6,8 @@ use Rattle.tree_model.specs.Rows.{Row, binding_row, case_row, ffield_row, qfield
 use Rattle.type_model.specs.Types.{Typ}
 use Rattle.signature_model.specs.Declarations.{in_text}
 use Rattle.signature_model.specs.Entries.{Environment, entry, an_exception}
-use Rattle.typing_model.specs.Demands.{Site, environment_of}
+use Rattle.std.specs.Prelude.{slice_get}
+use Rattle.typing_model.specs.Demands.{Site, treated, environment_of}
 use Rattle.typing_model.specs.Contexts.{Context, Choice, Bound, parameters, type_at, under, generalised_in}
 use Rattle.typing_model.specs.Declarations.{read_optional, entries_of_exception}
 use Rattle.typing_model.specs.Parts.{Expression, Pattern, TypeExpression, ConstructorPart, Item, Seen, seen_too, no_names, Child, token_in, path_in, no_expression_at, no_pattern_at, no_type_at, types_in, expression_in, expressions_in, pattern_in, patterns_in, first_of, place_of}
@@ -17,14 +18,14 @@ use Rattle.typing_model.specs.TypeExpressions.{type_row}
 use Rattle.typing_model.specs.Items.{inside_item, names_made, exception_item, items_ask}
 use Rattle.typing_model.specs.Modules.{item_row}
 use Rattle.typing_model.specs.Meanings.{binding_of, case_of, field_of, field_pattern_of, constructor_of, recorded_expression, recorded_pattern, recorded_type, recorded_item, node_child, leaf_child, children_of, child_of, tree_child, item_base, items_from}
-use Rattle.typing_model.specs.Typings.{outermost, conditions_of}
+use Rattle.typing_model.specs.Typings.{outermost, conditions_of, conditions_before}
 use Rattle.typing_model.specs.Plain.{has_lets_alone, is_value_row, has_values_alone}
 use Rattle.typing_laws.proofs.Bools.{no_yes, and_cases}
 use Rattle.typing_laws.proofs.Settled.{lets_values}
 use Rattle.typing_laws.proofs.Steady.{Each, no_one, one_and, IfThere, absent, there}
 use Rattle.typed_model.specs.Over.{AreNoTypes, IsOver}
 use Rattle.typed_model.specs.Shown.{IsToldTyped}
-use Rattle.over_laws.proofs.Told.{Around, IsIn, over_itself, over_more, values_with, Told, nothing_told, join, told, told_typed, found_over, typed_over}
+use Rattle.over_laws.proofs.Told.{Around, IsIn, over_itself, over_more, values_with, Told, nothing_told, join, told, told_typed, found_over, before_over, typed_over}
 use Rattle.over_laws.proofs.Types.{ToldType, no_type_told}
 use Rattle.over_laws.proofs.Patterns.{ToldPattern, ToldFieldPattern, no_pattern_told, field_pattern_told}
 use Rattle.over_laws.proofs.Expressions.{ToldExpression, no_expression_told}
@@ -163,6 +164,10 @@ text_told env items kept ch values = asked_told (outermost env kept ch) no_names
 -- In a text of `let`, exceptions and `;;` each environment in which a node is treated is the first one with values and exceptions in front.
 pub values_tell_over : (env : Environment) (items : List Tree) (kept : Site → Bool) (ch : Choice) → has_values_alone items ≡ true → (n : ℕ) (E : Environment) → environment_of n (conditions_of env items kept ch) ≡ Some E → IsOver env E
 values_tell_over env items kept ch values n E e = found_over (record { env = env; types = ch.type_at }) n E (conditions_of env items kept ch) (text_told env items kept ch values).over e
+
+-- So is each in which a node is treated before the demand of a site.
+pub values_before_over : (env : Environment) (items : List Tree) (kept : Site → Bool) (ch : Choice) → has_values_alone items ≡ true → (s : Site) (n : ℕ) (E : Environment) (k : ℕ) → slice_get (conditions_before s (conditions_of env items kept ch)) k ≡ Some (treated n E) → IsOver env E
+values_before_over env items kept ch values s n E k e = before_over (record { env = env; types = ch.type_at }) n E s (conditions_of env items kept ch) (text_told env items kept ch values).over k e
 
 -- And so is each in which a node is told with its type.
 pub values_tell_typed_over : (env : Environment) (items : List Tree) (kept : Site → Bool) (ch : Choice) → has_values_alone items ≡ true → (n : ℕ) (E : Environment) (t : Typ) → IsToldTyped n E t (conditions_of env items kept ch) → IsOver env E

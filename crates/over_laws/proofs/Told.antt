@@ -1,11 +1,13 @@
 -- Environments with values and exceptions in front, and conditions that tell such environments alone.
-use Rattle.std.proofs.Common.{◌≡◌, ◌∙◌, ℕ, ◌==◌, Bool, true, false, List, [], ◌∷◌, ◌++◌, Some, refl, ap, subst, if◌then◌else◌}
+use Rattle.std.proofs.Common.{◌≡◌, ◌∙◌, ℕ, zero, suc, ◌==◌, Bool, true, false, List, [], ◌∷◌, ◌++◌, Some, refl, ap, subst, if◌then◌else◌}
 use Rattle.tree_model.specs.Trees.{Place}
 use Rattle.type_model.specs.Types.{Typ}
 use Rattle.type_model.specs.Schemes.{Scheme}
 use Rattle.signature_model.specs.Declarations.{in_text}
 use Rattle.signature_model.specs.Entries.{Environment, entry, a_value}
-use Rattle.typing_model.specs.Demands.{Demand, Condition, same, instance, made, known, demand, treated, environment_of}
+use Rattle.typing_model.specs.Typings.{conditions_before}
+use Rattle.std.specs.Prelude.{slice_get}
+use Rattle.typing_model.specs.Demands.{Site, same_site, Demand, Condition, same, instance, made, known, demand, treated, environment_of}
 use Rattle.typing_model.specs.Contexts.{Context, Bound, under, type_at, ask, entries_with, with_names, monomorphic}
 use Rattle.typed_model.specs.Over.{AreNoTypes, IsOver}
 use Rattle.typed_model.specs.Shown.{IsToldTyped}
@@ -177,6 +179,26 @@ found_over w n E (treated m F ∷ cs) h e = by (n == m) e (found_over w n E cs h
     by : (b : Bool) → (if b then Some F else environment_of n cs) ≡ Some E → (environment_of n cs ≡ Some E → IsOver w.env E) → IsOver w.env E
     by true p later = subst (IsOver w.env) (one p) h.0
     by false p later = later p
+
+-- so is each in which a node is treated before the demand of a site
+pub before_over : (w : Around) (n : ℕ) (E : Environment) (s : Site) (cs : List Condition) → AllOver w cs → (k : ℕ) → slice_get (conditions_before s cs) k ≡ Some (treated n E) → IsOver w.env E
+before_over w n E s [] h k e = absurd (cc)
+before_over w n E s (same t u ∷ cs) h zero e = absurd (cc)
+before_over w n E s (same t u ∷ cs) h (suc k) e = before_over w n E s cs h k e
+before_over w n E s (instance z t ∷ cs) h zero e = absurd (cc)
+before_over w n E s (instance z t ∷ cs) h (suc k) e = before_over w n E s cs h k e
+before_over w n E s (made m t ∷ cs) h zero e = absurd (cc)
+before_over w n E s (made m t ∷ cs) h (suc k) e = before_over w n E s cs h k e
+before_over w n E s (known t ∷ cs) h zero e = absurd (cc)
+before_over w n E s (known t ∷ cs) h (suc k) e = before_over w n E s cs h k e
+before_over w n E s (treated m F ∷ cs) h zero e = let is : F ≡ E = cc in subst (IsOver w.env) is h.0
+before_over w n E s (treated m F ∷ cs) h (suc k) e = before_over w n E s cs h.2 k e
+before_over w n E s (demand t at d ∷ cs) h k e = by (same_site s t) k e (before_over w n E s cs h)
+  where
+    by : (b : Bool) (k : ℕ) → slice_get (elim b [ true ↦ [] | false ↦ demand t at d ∷ conditions_before s cs ]) k ≡ Some (treated n E) → ((k : ℕ) → slice_get (conditions_before s cs) k ≡ Some (treated n E) → IsOver w.env E) → IsOver w.env E
+    by true k e further = absurd (cc)
+    by false zero e further = absurd (cc)
+    by false (suc k) e further = further k e
 
 -- so is each environment in which they tell a node with its type, which is the node's own
 all_told : (w : Around) (n : ℕ) (E : Environment) (t : Typ) (xs ys : List Condition) → AllOver w (xs ++ treated n E ∷ known t ∷ ys) → IsOver w.env E × (t ≡ w.types n)

@@ -38,7 +38,7 @@ use Rattle.typing_conditions.proofs.Nodes.{same_made}
 use Rattle.typing_conditions.proofs.Recording.{ends_own, records_stay}
 use Rattle.typing_conditions.proofs.Branching.{carried_after, after_hides}
 use Rattle.typing_conditions.proofs.Stays.{stays_trans, stays_closed, stays_opened}
-use Rattle.typing_conditions.proofs.Surrounding.{surrounds_on, surrounds_sees}
+use Rattle.typing_conditions.proofs.Surrounding.{surrounds_on, surrounds_sees, sees_on}
 use Rattle.typing_steps.specs.States.{is_aloud, sight}
 use Rattle.typing_steps.specs.Typing.{as_declared, TypesAny, AsksEqualIf}
 use Rattle.typing_steps.specs.Building.{used_by, building_in, construction_asks, TakesAs, TypesConstructor}
@@ -63,16 +63,16 @@ use Rattle.pattern_rows.proofs.Terms.{applied_term}
 use Rattle.pattern_rows.proofs.Typed.{over_row}
 
 -- a pattern that has the type that may be wanted
-pub matches_as_if : (a b d : Parts) (env : List Entry) (p : Pattern) (at : Place) (seen : List Name) (added : List Bind) (found : ℕ) (wanted : Option NodeRef) → p.at ≡ at → (typed : MatchesTo a b env p seen added found) → Goes a b → AsksEqualIf b d at found wanted →
+pub matches_as_if : (a b d : Parts) (env : List Entry) (p : Pattern) (at : Place) (seen : List Name) (added : List Bind) (found : ℕ) (wanted : Option NodeRef) → p.at ≡ at → (typed : MatchesTo a b env p seen added found) → Goes a b → AsksEqualIf b d env at found wanted →
     MatchesAsIf a d env p seen added typed.opens (option_map (λ (w : NodeRef). w.0) wanted)
 matches_as_if a b d env p at seen added found None place typed goes asked = λ aloud F scope G s.
     subst (λ q. PatternAsked env F scope (sight a) G (sight q) p seen (λ c. []) added typed.opens) (sym asked)
     (let x = typed.typed aloud F scope G s in record { carried = carried_as (λ c. sym (append-nil (p.matched c seen))) x.typed.carried; done = done_as _ x.typed.carried x.done; names = λ H r. (typed.typed aloud F scope H r).names })
-matches_as_if a b d env p at seen added found (Some wanted) place typed goes asked = λ aloud F scope G n k t s has.
+matches_as_if a b d env p at seen added found (Some wanted) place typed goes asked = λ aloud F scope G n k t its s has.
     let loud : is_aloud b.telling ≡ true = ap is_aloud goes.telling ∙ aloud in
     let x = typed.typed aloud F scope G s in
     let y = means_on x.typed.carried.stays has in
-    let z = asked loud F scope (typed.opens ++ G) (site n k) (λ ch. ch.type_at p.node) t x.typed.means y in
+    let z = asked loud F scope (typed.opens ++ G) (site n k) (λ ch. ch.type_at p.node) t its (sees_on scope x.typed.carried.stays s.reached (surrounds_sees s)) x.typed.means y in
     let w = subst (λ l. Carried F scope (λ c. ask n k l (equal (type_at c p.node) (t c.chosen))) (sight b) (typed.opens ++ G) (sight d) (typed.opens ++ G)) (sym place) z in
     record {
       carried = carried_trans x.typed.carried w;
@@ -81,12 +81,12 @@ matches_as_if a b d env p at seen added found (Some wanted) place typed goes ask
           let q = typed.typed aloud F scope H r in
           let K = typed.opens ++ H in
           let opened : Stays F (sight b) K (sight b) ((letter n k, wanted.0) ∷ K) = stays_opened (letter n k) y.open_node.inside in
-          let e = asked loud F scope ((letter n k, wanted.0) ∷ K) (site n k) (λ ch. ch.type_at p.node) (λ ch. ch.letter n k) (means_on opened q.typed.means) (record { open_node = y.open_node; is = λ V ch loose g. g.given.0.is }) in
+          let e = asked loud F scope ((letter n k, wanted.0) ∷ K) (site n k) (λ ch. ch.type_at p.node) (λ ch. ch.letter n k) its (sees_on scope (stays_trans q.typed.carried.stays opened) r.reached (surrounds_sees r)) (means_on opened q.typed.means) (record { open_node = y.open_node; is = λ V ch loose g. g.given.0.is }) in
           all_bound_on (stays_closed ((letter n k, wanted.0) ∷ []) (stays_trans opened e.stays)) q.names;
     }
 
 -- the same with the names that are added
-pub wanted_matches : (a b d : Parts) (env : List Entry) (o : Numbered) (names more : List Bind) (seen now : List Name) (found : ℕ) (wanted : Option NodeRef) → Matches a b env (pattern_of a.item o) names more seen now found → Goes a b → AsksEqualIf b d o.at found wanted →
+pub wanted_matches : (a b d : Parts) (env : List Entry) (o : Numbered) (names more : List Bind) (seen now : List Name) (found : ℕ) (wanted : Option NodeRef) → Matches a b env (pattern_of a.item o) names more seen now found → Goes a b → AsksEqualIf b d env o.at found wanted →
     MatchesWanted a d env (pattern_of a.item o) names more seen now (option_map (λ (w : NodeRef). w.0) wanted)
 wanted_matches a b d env o names more seen now found wanted matched goes asked = record {
   added = matched.added;
@@ -119,13 +119,13 @@ constructor_splits c n head p seen qs (Some t) = by (built_by c n (record { qual
     by (Some b) = refl
 
 -- the argument of a constructor that is known has the declared type
-argument_known : (b d : Parts) (env : List Entry) (p : Pattern) (seen : List Name) (added : List Bind) (opens : Letters) (n head : ℕ) (takes : Option Typ) (argument : Option ℕ) {F : Frame} {scope : Scope} {H : Letters} → is_aloud b.telling ≡ true →
+argument_known : (b d : Parts) (env : List Entry) (p : Pattern) (seen : List Name) (added : List Bind) (opens : Letters) (n head : ℕ) (takes : Option Typ) (argument : Option ℕ) {F : Frame} {scope : Scope} {H : Letters} → is_aloud b.telling ≡ true → scope.own n ≡ true →
     Surrounds as_declared F (sight b) H env scope → TakesAs F (sight b) H head takes argument → MatchesAsIf b d env p seen added opens argument →
     PatternAsked env F scope (sight b) H (sight d) p seen (λ c. argument_has n 2 p.at (type_at c p.node) (option_map (λ t. used_by head t c.chosen) takes)) added opens
-argument_known b d env p seen added opens n head None None {F} {scope} {H} aloud names has argued = argued aloud F scope H names
-argument_known b d env p seen added opens n head (Some t) (Some m) {F} {scope} {H} aloud names has argued = argued aloud F scope H n 2 (used_by head t) names has
-argument_known b d env p seen added opens n head None (Some m) aloud names has argued = absurd has
-argument_known b d env p seen added opens n head (Some t) None aloud names has argued = absurd has
+argument_known b d env p seen added opens n head None None {F} {scope} {H} aloud its names has argued = argued aloud F scope H names
+argument_known b d env p seen added opens n head (Some t) (Some m) {F} {scope} {H} aloud its names has argued = argued aloud F scope H n 2 (used_by head t) its names has
+argument_known b d env p seen added opens n head None (Some m) aloud its names has argued = absurd has
+argument_known b d env p seen added opens n head (Some t) None aloud its names has argued = absurd has
 
 -- A constructor with its argument, as a row: its use, the argument, and the record of its node. The letters of its type are those of its own node, and are open until the row's is recorded.
 pub constructor_typed : (a b d f : Parts) (env : List Entry) (n head number : ℕ) (at : Place) (qs : List Tok) (last : Option Tok) (known : Bool) (p : Pattern) (seen : List Name) (added : List Bind) (opens : Letters) (m : ℕ) (argument : Option ℕ) →
@@ -133,12 +133,12 @@ pub constructor_typed : (a b d f : Parts) (env : List Entry) (n head number : �
     MatchesRow a f env (with_constructor n at (record { qualifiers = qs; last = last }) head p) seen added n m
 constructor_typed a b d f env n head number at qs last true p seen added opens m argument typed goes argued goes' place records = record {
   opens = opens;
-  typed = λ aloud F scope G names.
+  typed = λ aloud F scope G its names.
       let w : Written = record { qualifiers = qs; last = last } in
       let asks = λ (c : Context). applied_constructor c n w head (n ∷ head ∷ []) (p.matched c seen) (argument_has n 2 p.at (type_at c p.node)) in
       let k = typed aloud F scope G n head names in
       let loud : is_aloud b.telling ≡ true = ap is_aloud goes.telling ∙ aloud in
-      let x = argument_known b d env p seen added opens n head k.building.argument argument loud (surrounds_on k.carried.stays names) k.takes argued in
+      let x = argument_known b d env p seen added opens n head k.building.argument argument loud its (surrounds_on k.carried.stays names) k.takes argued in
       let y = means_on x.carried.stays k.builds in
       let first = same_made {scope = scope} (own n) (λ t. tt) y in
       let ends = carried_trans first (same_made (own head) (λ t. tt) (means_on first.stays y)) in
@@ -182,7 +182,7 @@ constructor_typed a b d f env n head number at qs last true p seen added opens m
 }
 constructor_typed a b d f env n head number at qs last false p seen added opens m argument typed goes argued goes' place records = record {
   opens = opens;
-  typed = λ aloud F scope G names.
+  typed = λ aloud F scope G its names.
       let w : Written = record { qualifiers = qs; last = last } in
       let asks = λ (c : Context). applied_constructor c n w head (n ∷ head ∷ []) (p.matched c seen) (argument_has n 2 p.at (type_at c p.node)) in
       let k = typed.1 aloud F scope G n (own head) (λ t. tt) names in
@@ -252,7 +252,7 @@ nothing_applied a b d env h q found m names more seen now none matched goes any 
   adds = matched.adds;
   typed = λ n at.
       subst (λ r. MatchesRow a d env r seen matched.added n m) (sym (applied_by n at h q None none))
-      (over_row a b d env n at (q ∷ []) seen matched.added (found ∷ []) m (λ c k. []) (one_matched a b env q seen matched.added found matched.typed) goes (λ aloud F scope G k s all. row_any b d {env = env} k any aloud F scope G s));
+      (over_row a b d env n at (q ∷ []) seen matched.added (found ∷ []) m (λ c k. []) (one_matched a b env q seen matched.added found matched.typed) goes (λ aloud F scope G k its s all. row_any b d {env = env} k any aloud F scope G its s));
 }
 
 -- the names in A p are those in its argument

@@ -20,7 +20,7 @@ use Rattle.typing_state.specs.Goes.{Goes, Told, faults_of, OnlyFaults}
 use Rattle.typing_state.specs.Messages.{one_side_text}
 use Rattle.typing_conditions.specs.Sights.{Sight, Letters}
 use Rattle.typing_conditions.specs.Frames.{Frame}
-use Rattle.typing_conditions.specs.Carrying.{Scope, Stays, Carried}
+use Rattle.typing_conditions.specs.Carrying.{Scope, SeesScope, Stays, Carried}
 use Rattle.typing_conditions.proofs.Recording.{ends_same}
 use Rattle.typing_conditions.specs.Hiding.{AreDone}
 use Rattle.typing_conditions.proofs.Carried.{carried_refl, carried_trans, carried_as, done_then, done_last, done_as}
@@ -28,7 +28,7 @@ use Rattle.typing_conditions.proofs.Hiding.{done_none, done_both, owns_done}
 use Rattle.typing_conditions.proofs.Keeping.{all_among}
 use Rattle.typing_conditions.proofs.Meaning.{means_on}
 use Rattle.typing_conditions.proofs.Stays.{stays_trans}
-use Rattle.typing_conditions.proofs.Surrounding.{surrounds_on}
+use Rattle.typing_conditions.proofs.Surrounding.{surrounds_on, surrounds_sees, sees_on}
 use Rattle.typing_steps.specs.States.{is_aloud, sight}
 use Rattle.typing_steps.specs.Typing.{AsksEqual}
 use Rattle.typing_steps.proofs.Testing.{complaint_told}
@@ -168,8 +168,8 @@ sides_told a b at first later x some told rest = λ aloud F scope G n k xs ys p 
     (asked_one n k (place_of at) (λ c. test (complaint.one_side x) false) (complaint_told a b (complaint.one_side x) (site n k) aloud told rest).carried)
 
 -- a name of the first side isn't on the later one
-pub name_alone : (a : Parts) (name : Bind) (later : List Bind) → find_bind name.token.name later ≡ None → AsksName a a name later
-name_alone a name later none = λ aloud F scope G n k x ys h all.
+pub name_alone : (a : Parts) (env : List Entry) (name : Bind) (later : List Bind) → find_bind name.token.name later ≡ None → AsksName a a env name later
+name_alone a env name later none = λ aloud F scope G n k x ys its sees h all.
     asked_as (λ c. by F (sight a) G c x (find_bound x.name ys) (subst (FoundAs F (sight a) G (find_bound x.name ys)) (ap (λ m. find_bind m later) h.named ∙ none) (found_as x.name all))) (asked_none n k)
   where
     by : (F : Frame) (b : Sight) (G : Letters) (c : Context) (x : Bound) (o : Option Bound) → FoundAs F b G o None → let none : List (Place × Demand) = [] in none ≡ (elim o [ None ↦ [] | Some o ↦ (o.place, equal (o.has_type c) (x.has_type c)) ∷ [] ])
@@ -177,15 +177,15 @@ name_alone a name later none = λ aloud F scope G n k x ys h all.
     by F b G c x (Some o) f = absurd f
 
 -- it is: its types are asked to be one
-pub name_common : (a b : Parts) (name other : Bind) (later : List Bind) → find_bind name.token.name later ≡ Some other → AsksEqual a b (parts.place_of other.token) other.node.0 name.node.0 → AsksName a b name later
-name_common a b name other later some asked = λ aloud F scope G n k x ys h all.
-    by F scope G aloud n k x h (find_bound x.name ys) (subst (FoundAs F (sight a) G (find_bound x.name ys)) (ap (λ m. find_bind m later) h.named ∙ some) (found_as x.name all))
+pub name_common : (a b : Parts) (env : List Entry) (name other : Bind) (later : List Bind) → find_bind name.token.name later ≡ Some other → AsksEqual a b env (parts.place_of other.token) other.node.0 name.node.0 → AsksName a b env name later
+name_common a b env name other later some asked = λ aloud F scope G n k x ys its sees h all.
+    by F scope G aloud n k x its sees h (find_bound x.name ys) (subst (FoundAs F (sight a) G (find_bound x.name ys)) (ap (λ m. find_bind m later) h.named ∙ some) (found_as x.name all))
   where
-    by : (F : Frame) (scope : Scope) (G : Letters) → is_aloud a.telling ≡ true → (n k : ℕ) (x : Bound) → IsBound F (sight a) G x name → (o : Option Bound) → FoundAs F (sight a) G o (Some other) →
+    by : (F : Frame) (scope : Scope) (G : Letters) → is_aloud a.telling ≡ true → (n k : ℕ) (x : Bound) → scope.own n ≡ true → SeesScope F scope (sight a) G env → IsBound F (sight a) G x name → (o : Option Bound) → FoundAs F (sight a) G o (Some other) →
         AllAsked F scope (sight a) G (sight b) n k (λ c. elim o [ None ↦ [] | Some o ↦ (o.place, equal (o.has_type c) (x.has_type c)) ∷ [] ])
-    by F scope G aloud n k x h None f = absurd f
-    by F scope G aloud n k x h (Some o) f =
-        let z = asked aloud F scope G (site n k) _ _ f.means h.means in
+    by F scope G aloud n k x its sees h None f = absurd f
+    by F scope G aloud n k x its sees h (Some o) f =
+        let z = asked aloud F scope G (site n k) _ _ its sees f.means h.means in
         asked_one n k o.place (λ c. equal (o.has_type c) (x.has_type c)) (carried_as (λ c. (λ i. demand (site n k) (sym f.placed i) (equal (sym (f.chosen c) i) (sym (h.chosen c) i)) ∷ [])) z)
 
 -- what is asked of one name, and of the others
@@ -197,19 +197,19 @@ names_split c x xs ys = by (find_bound x.name ys)
     by (Some o) = refl
 
 -- no name yet
-pub names_none : (a : Parts) (first later : List Bind) → AsksNamesFirst a a first first later
-names_none a first later = λ aloud F scope G n k xs ys p q. record { front = λ c. []; rest = xs; asked = asked_none n k; names = p; asks = λ c. refl }
+pub names_none : (a : Parts) (env : List Entry) (first later : List Bind) → AsksNamesFirst a a env first first later
+names_none a env first later = λ aloud F scope G n k xs ys its r sees p q. record { front = λ c. []; rest = xs; asked = asked_none n k; names = p; asks = λ c. refl }
 
 -- one name more
-pub names_more : (a b d : Parts) (first left others later : List Bind) (name : Bind) → left ≡ name ∷ others → Goes a b → AsksNamesFirst a b first left later → AsksName b d name later → AsksNamesFirst a d first others later
-names_more a b d first left others later name split goes so_far one = λ aloud F scope G n k xs ys p q.
-    let x = so_far aloud F scope G n k xs ys p q in
-    by F scope G n k xs ys (ap is_aloud goes.telling ∙ aloud) x.front x.rest x.asked (subst (AllBound F (sight b) G x.rest) split x.names) (all_bound_on x.asked.carried.stays q) x.asks
+pub names_more : (a b d : Parts) (env : List Entry) (first left others later : List Bind) (name : Bind) → left ≡ name ∷ others → Goes a b → AsksNamesFirst a b env first left later → AsksName b d env name later → AsksNamesFirst a d env first others later
+names_more a b d env first left others later name split goes so_far one = λ aloud F scope G n k xs ys its r sees p q.
+    let x = so_far aloud F scope G n k xs ys its r sees p q in
+    by F scope G n k xs ys its (sees_on scope x.asked.carried.stays r sees) (ap is_aloud goes.telling ∙ aloud) x.front x.rest x.asked (subst (AllBound F (sight b) G x.rest) split x.names) (all_bound_on x.asked.carried.stays q) x.asks
   where
-    by : (F : Frame) (scope : Scope) (G : Letters) (n k : ℕ) (xs ys : List Bound) → is_aloud b.telling ≡ true → (front : Context → List (Place × Demand)) (rest : List Bound) → AllAsked F scope (sight a) G (sight b) n k front → AllBound F (sight b) G rest (name ∷ others) →
+    by : (F : Frame) (scope : Scope) (G : Letters) (n k : ℕ) (xs ys : List Bound) → scope.own n ≡ true → SeesScope F scope (sight b) G env → is_aloud b.telling ≡ true → (front : Context → List (Place × Demand)) (rest : List Bound) → AllAsked F scope (sight a) G (sight b) n k front → AllBound F (sight b) G rest (name ∷ others) →
         AllBound F (sight b) G ys later → ((c : Context) → common_names c xs ys ≡ front c ++ common_names c rest ys) → NamesFirst F scope (sight a) G (sight d) n k xs ys others
-    by F scope G n k xs ys loud front rest asked (one_bound {x = x} {xs = xs'} h hs) q asks =
-        let y = one loud F scope G n (k + asked.count) x ys h q in
+    by F scope G n k xs ys its sees loud front rest asked (one_bound {x = x} {xs = xs'} h hs) q asks =
+        let y = one loud F scope G n (k + asked.count) x ys its sees h q in
         record {
           front = λ c. front c ++ name_asks c x ys;
           rest = xs';
@@ -219,9 +219,9 @@ names_more a b d first left others later name split goes so_far one = λ aloud F
         }
 
 -- all names
-pub names_all : (a b : Parts) (first left later : List Bind) → left ≡ [] → AsksNamesFirst a b first left later → AsksNames a b first later
-names_all a b first left later none so_far = λ aloud F scope G n k xs ys p q.
-    let x = so_far aloud F scope G n k xs ys p q in
+pub names_all : (a b : Parts) (env : List Entry) (first left later : List Bind) → left ≡ [] → AsksNamesFirst a b env first left later → AsksNames a b env first later
+names_all a b env first left later none so_far = λ aloud F scope G n k xs ys its r sees p q.
+    let x = so_far aloud F scope G n k xs ys its r sees p q in
     by F scope G n k xs ys x.front x.rest x.asked (subst (AllBound F (sight b) G x.rest) none x.names) x.asks
   where
     by : (F : Frame) (scope : Scope) (G : Letters) (n k : ℕ) (xs ys : List Bound) (front : Context → List (Place × Demand)) (rest : List Bound) → AllAsked F scope (sight a) G (sight b) n k front → AllBound F (sight b) G rest [] →
@@ -229,32 +229,32 @@ names_all a b first left later none so_far = λ aloud F scope G n k xs ys p q.
     by F scope G n k xs ys front rest asked none_bound asks = asked_as (λ c. sym (append-nil (front c)) ∙ sym (asks c)) asked
 
 -- a later side beside the first: its names, their types, and its own
-pub beside : (a b d e : Parts) (first side : Side) (at : Place) → AsksSides a b at first.names side.names → Goes a b → AsksNames b d first.names side.names → Goes b d → AsksEqual d e at side.node first.node → AsksBeside a e first side at
-beside a b d e first side at apart goes names goes' asked = λ aloud F scope G n k p q h i here.
+pub beside : (a b d e : Parts) (env : List Entry) (first side : Side) (at : Place) → AsksSides a b at first.names side.names → Goes a b → AsksNames b d env first.names side.names → Goes b d → AsksEqual d e env at side.node first.node → AsksBeside a e env first side at
+beside a b d e env first side at apart goes names goes' asked = λ aloud F scope G n k p q its sees h i here.
     let loud : is_aloud b.telling ≡ true = ap is_aloud goes.telling ∙ aloud in
     let x = subst (λ l. AllAsked F scope (sight a) G (sight b) n k (λ c. sides_differ l (name_apart p.names q.names))) (sym here) (apart aloud F scope G n k p.names q.names h.bound i.bound) in
-    let y = names loud F scope G n (k + x.count) p.names q.names (all_bound_on x.carried.stays h.bound) (all_bound_on x.carried.stays i.bound) in
+    let y = names loud F scope G n (k + x.count) p.names q.names its (x.carried.stays.reaches h.means.open_node.reached) (sees_on scope x.carried.stays h.means.open_node.reached sees) (all_bound_on x.carried.stays h.bound) (all_bound_on x.carried.stays i.bound) in
     let both = asked_both x y in
-    let z = asked (ap is_aloud goes'.telling ∙ loud) F scope G (site n (k + both.count)) (λ ch. ch.type_at q.node) (λ ch. ch.type_at p.node) (means_on both.carried.stays i.means) (means_on both.carried.stays h.means) in
+    let z = asked (ap is_aloud goes'.telling ∙ loud) F scope G (site n (k + both.count)) (λ ch. ch.type_at q.node) (λ ch. ch.type_at p.node) its (sees_on scope both.carried.stays h.means.open_node.reached sees) (means_on both.carried.stays i.means) (means_on both.carried.stays h.means) in
     asked_both both (asked_one n (k + both.count) q.at (λ c. equal (type_at c q.node) (type_at c p.node))
     (subst (λ l. Carried F scope (λ c. demand (site n (k + both.count)) l (equal (type_at c q.node) (type_at c p.node)) ∷ []) (sight d) G (sight e) G) (sym here) z))
 
 -- no later side yet
-pub later_none : (a : Parts) (first : Side) (sides : List Side) (ps : List Pattern) → AsksLaterFirst a a first sides sides ps ps
-later_none a first sides ps = λ aloud F scope G n k p h all. record { front = λ c. []; asked = asked_none n k; all = all; asks = λ c. refl }
+pub later_none : (a : Parts) (env : List Entry) (first : Side) (sides : List Side) (ps : List Pattern) → AsksLaterFirst a a env first sides sides ps ps
+later_none a env first sides ps = λ aloud F scope G n k p its sees h all. record { front = λ c. []; asked = asked_none n k; all = all; asks = λ c. refl }
 
 -- one later side more
-pub later_more : (a b d : Parts) (first side : Side) (sides left others : List Side) (ps rest qs : List Pattern) (q : Pattern) (at : Place) → left ≡ side ∷ others → rest ≡ q ∷ qs → q.at ≡ at → Goes a b → AsksLaterFirst a b first sides left ps rest → AsksBeside b d first side at →
-    AsksLaterFirst a d first sides others ps qs
-later_more a b d first side sides left others ps rest qs q at split part here goes so_far one = λ aloud F scope G n k p h all.
-    let x = so_far aloud F scope G n k p h all in
+pub later_more : (a b d : Parts) (env : List Entry) (first side : Side) (sides left others : List Side) (ps rest qs : List Pattern) (q : Pattern) (at : Place) → left ≡ side ∷ others → rest ≡ q ∷ qs → q.at ≡ at → Goes a b → AsksLaterFirst a b env first sides left ps rest → AsksBeside b d env first side at →
+    AsksLaterFirst a d env first sides others ps qs
+later_more a b d env first side sides left others ps rest qs q at split part here goes so_far one = λ aloud F scope G n k p its sees h all.
+    let x = so_far aloud F scope G n k p its sees h all in
     let there : AllSides F (sight b) G (q ∷ qs) (side ∷ others) = subst (AllSides F (sight b) G (q ∷ qs)) split (subst (λ rs. AllSides F (sight b) G rs left) part x.all) in
-    by F scope G n k p (ap is_aloud goes.telling ∙ aloud) x.front x.asked (side_on x.asked.carried.stays h) there (λ c. x.asks c ∙ ap (λ rs. x.front c ++ sides_beside c p rs) part)
+    by F scope G n k p its (sees_on scope x.asked.carried.stays h.means.open_node.reached sees) (ap is_aloud goes.telling ∙ aloud) x.front x.asked (side_on x.asked.carried.stays h) there (λ c. x.asks c ∙ ap (λ rs. x.front c ++ sides_beside c p rs) part)
   where
-    by : (F : Frame) (scope : Scope) (G : Letters) (n k : ℕ) (p : Pattern) → is_aloud b.telling ≡ true → (front : Context → List (Place × Demand)) → AllAsked F scope (sight a) G (sight b) n k front → IsSide F (sight b) G p first → AllSides F (sight b) G (q ∷ qs) (side ∷ others) →
+    by : (F : Frame) (scope : Scope) (G : Letters) (n k : ℕ) (p : Pattern) → scope.own n ≡ true → SeesScope F scope (sight b) G env → is_aloud b.telling ≡ true → (front : Context → List (Place × Demand)) → AllAsked F scope (sight a) G (sight b) n k front → IsSide F (sight b) G p first → AllSides F (sight b) G (q ∷ qs) (side ∷ others) →
         ((c : Context) → sides_beside c p ps ≡ front c ++ (side_beside c p q ++ sides_beside c p qs)) → LaterFirst F scope (sight a) G (sight d) n k p ps qs others
-    by F scope G n k p loud front asked h (one_more i hs) asks =
-        let y = one loud F scope G n (k + asked.count) p q h i here in
+    by F scope G n k p its sees loud front asked h (one_more i hs) asks =
+        let y = one loud F scope G n (k + asked.count) p q its sees h i here in
         record {
           front = λ c. front c ++ side_beside c p q;
           asked = asked_both asked y;
@@ -263,9 +263,9 @@ later_more a b d first side sides left others ps rest qs q at split part here go
         }
 
 -- all later sides
-pub later_all : (a b : Parts) (first : Side) (sides left : List Side) (ps rest : List Pattern) → rest ≡ [] → AsksLaterFirst a b first sides left ps rest → AsksLater a b first sides ps
-later_all a b first sides left ps rest none so_far = λ aloud F scope G n k p h all.
-    let x = so_far aloud F scope G n k p h all in
+pub later_all : (a b : Parts) (env : List Entry) (first : Side) (sides left : List Side) (ps rest : List Pattern) → rest ≡ [] → AsksLaterFirst a b env first sides left ps rest → AsksLater a b env first sides ps
+later_all a b env first sides left ps rest none so_far = λ aloud F scope G n k p its sees h all.
+    let x = so_far aloud F scope G n k p its sees h all in
     asked_as (λ c. sym (append-nil (x.front c)) ∙ ap (λ rs. x.front c ++ sides_beside c p rs) (sym none) ∙ sym (x.asks c)) x.asked
 
 -- the first side, and the others
@@ -277,14 +277,14 @@ split_sides : {F : Frame} {a : Sight} {G : Letters} {p : Pattern} {ps : List Pat
 split_sides (one_more h hs) = record { head = h; tail = hs }
 
 -- p | p, over its sides: it binds the names of the first
-pub or_row : (a b d : Parts) (env : List Entry) (n : ℕ) (at : Place) (p : Pattern) (ps : List Pattern) (seen : List Name) (first : Side) (sides : List Side) → MatchesSides a b env (p ∷ ps) seen (first ∷ sides) → Goes a b → AsksLater b d first sides ps →
+pub or_row : (a b d : Parts) (env : List Entry) (n : ℕ) (at : Place) (p : Pattern) (ps : List Pattern) (seen : List Name) (first : Side) (sides : List Side) → MatchesSides a b env (p ∷ ps) seen (first ∷ sides) → Goes a b → AsksLater b d env first sides ps →
     MatchesRow a d env (por n at p ps) seen first.names n first.node
 or_row a b d env n at p ps seen first sides matched goes asked = record {
   opens = matched.opens;
-  typed = λ aloud F scope G s.
+  typed = λ aloud F scope G its s.
       let x = matched.typed aloud F scope G s in
       let h = split_sides x.all in
-      let y = asked (ap is_aloud goes.telling ∙ aloud) F scope (matched.opens ++ G) n 0 p h.head h.tail in
+      let y = asked (ap is_aloud goes.telling ∙ aloud) F scope (matched.opens ++ G) n 0 p its (sees_on scope x.carried.stays s.reached (surrounds_sees s)) h.head h.tail in
       let ready : AreDone (sight d) (carried_trans x.carried y.carried).hidden matched.opens = done_then x.carried y.carried x.done in
       record {
         row = record {

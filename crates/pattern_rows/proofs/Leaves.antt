@@ -49,7 +49,7 @@ fresh_asked a b t at seen here tested = λ aloud F scope G n k.
 nameless : {a b : Parts} {env : List Entry} {p : Pattern} {seen : List Name} {n m : ℕ} → p.names ≡ [] → TypesRow a b env (λ c. p.matched c seen) n m → MatchesRow a b env p seen [] n m
 nameless {a} {b} {env} {p} {seen} {n} {m} none typed = record {
   opens = [];
-  typed = λ aloud F scope G s. let r = typed aloud F scope G s in record { row = r; among = none_among r.own; done = done_none; names = λ o st h known. subst (λ bs. AllBound F o G bs []) (sym none) none_bound };
+  typed = λ aloud F scope G its s. let r = typed aloud F scope G its s in record { row = r; among = none_among r.own; done = done_none; names = λ o st h known. subst (λ bs. AllBound F o G bs []) (sym none) none_bound };
 }
 
 -- x
@@ -57,7 +57,7 @@ pub named_row : (a b d : Parts) (env : List Entry) (n : ℕ) (at : Place) (t : T
     MatchesRow a d env (pname n at (Some t)) seen (record { token = t; node = ty; entry = e } ∷ []) n ty.0
 named_row a b d env n at t ty e seen any goes fresh entry = record {
   opens = [];
-  typed = λ aloud F scope G s.
+  typed = λ aloud F scope G its s.
       let x = any F scope G (own n) (λ u. tt) s.reached in
       let y = fresh (ap is_aloud goes.telling ∙ aloud) F scope ((own n, ty.0) ∷ G) n 0 in
       record {

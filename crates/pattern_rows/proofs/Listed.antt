@@ -35,6 +35,7 @@ use Rattle.pattern_rows.specs.Bounds.{Bind}
 use Rattle.pattern_rows.specs.Contracts.{row_pattern, patterns_of, types_at, MatchesRow, MatchesAll, EndsPatterns, list_asks, AsksEach, AsksEachFirst}
 use Rattle.pattern_rows.proofs.Terms.{list_term}
 use Rattle.pattern_rows.proofs.Typed.{over_row}
+use Rattle.typing_conditions.proofs.Surrounding.{surrounds_sees, sees_on}
 
 -- the first of some nodes, and the others
 pub record SplitMeans (F : Frame) (a : Sight) (G : Letters) (p : Pattern) (rest : List Pattern) (m : ℕ) (ms : List ℕ) : Type 0 where
@@ -50,15 +51,15 @@ split_means {F} {a} {G} left rest p nodes ms m split nodes_split all = by (subst
 
 -- no pattern yet
 pub equal_none : (a : Parts) (env : List Entry) (ps : List Pattern) (nodes : List ℕ) (wanted : ℕ) → AsksEachFirst a a env ps ps nodes nodes wanted
-equal_none a env ps nodes wanted = λ aloud F scope G n t s all has. record { done = λ c. []; k = 0; carried = carried_refl; asks = λ c. refl; means = all }
+equal_none a env ps nodes wanted = λ aloud F scope G n t its s all has. record { done = λ c. []; k = 0; carried = carried_refl; asks = λ c. refl; means = all }
 
 -- one pattern more
 pub equal_more : (a b d : Parts) (env : List Entry) (all left rest : List Pattern) (p : Pattern) (at : Place) (nodes left_nodes others : List ℕ) (m wanted : ℕ) → left ≡ p ∷ rest → left_nodes ≡ m ∷ others → p.at ≡ at → Goes a b →
-    AsksEachFirst a b env all left nodes left_nodes wanted → AsksEqual b d at m wanted → AsksEachFirst a d env all rest nodes others wanted
-equal_more a b d env all left rest p at nodes left_nodes others m wanted split nodes_split place goes first asked = λ aloud F scope G n t s means has.
-    let x = first aloud F scope G n t s means has in
+    AsksEachFirst a b env all left nodes left_nodes wanted → AsksEqual b d env at m wanted → AsksEachFirst a d env all rest nodes others wanted
+equal_more a b d env all left rest p at nodes left_nodes others m wanted split nodes_split place goes first asked = λ aloud F scope G n t its s means has.
+    let x = first aloud F scope G n t its s means has in
     let h = split_means left rest p left_nodes others m split nodes_split x.means in
-    let y = asked (ap is_aloud goes.telling ∙ aloud) F scope G (site n x.k) (λ ch. ch.type_at p.node) t h.head (means_on x.carried.stays has) in
+    let y = asked (ap is_aloud goes.telling ∙ aloud) F scope G (site n x.k) (λ ch. ch.type_at p.node) t its (sees_on scope x.carried.stays s.reached (surrounds_sees s)) h.head (means_on x.carried.stays has) in
     let z = subst (λ l. Carried F scope (λ c. ask n x.k l (equal (type_at c p.node) (t c.chosen))) (sight b) G (sight d) G) (sym place) y in
     record {
       done = λ c. x.done c ++ ask n x.k p.at (equal (type_at c p.node) (t c.chosen));
@@ -72,23 +73,23 @@ equal_more a b d env all left rest p at nodes left_nodes others m wanted split n
 
 -- all patterns
 pub equal_all : (a b : Parts) (env : List Entry) (all left : List Pattern) (nodes left_nodes : List ℕ) (wanted : ℕ) → left ≡ [] → AsksEachFirst a b env all left nodes left_nodes wanted → AsksEach a b env all nodes wanted
-equal_all a b env all left nodes left_nodes wanted none first = λ aloud F scope G n t s means has.
-    let x = first aloud F scope G n t s means has in
+equal_all a b env all left nodes left_nodes wanted none first = λ aloud F scope G n t its s means has.
+    let x = first aloud F scope G n t its s means has in
     carried_as (λ c. sym (append-nil (x.done c)) ∙ ap (λ ps. x.done c ++ ask_all n x.k (each_has c (t c.chosen) ps)) (sym none) ∙ sym (x.asks c)) x.carried
 
 -- the end of [ p; p ], where there is a first pattern
 pub ends_list : (a b d : Parts) (env : List Entry) (p : Pattern) (ps : List Pattern) (element m : ℕ) (ms : List ℕ) → Goes a b → AsksEach a b env ps ms element → (IsNode b.store.nodes element → Makes b.store d.store m (Con list_path (codes "list") (element ∷ []))) → OnlyStore b d →
     EndsPatterns a d env (list_asks (p ∷ ps)) (p ∷ ps) (element ∷ ms) m
-ends_list a b d env p ps element m ms goes each made rest = λ aloud F scope G n s all.
+ends_list a b d env p ps element m ms goes each made rest = λ aloud F scope G n its s all.
     let h = split_means (p ∷ ps) ps p (element ∷ ms) ms element refl refl all in
-    let x = each aloud F scope G n (λ ch. ch.type_at p.node) s h.tail h.head in
+    let x = each aloud F scope G n (λ ch. ch.type_at p.node) its s h.tail h.head in
     let y = list_over b d {scope = scope} (means_on x.stays h.head) made rest in
     row_of_type (λ c. ask_all n 0 (each_has c (type_at c p.node) ps) ++ []) (λ ch. list_type (ch.type_at p.node)) (carried_trans x y.carried) y.means
     (λ c. ap (λ xs. xs ++ same (type_at c n) (list_type (type_at c p.node)) ∷ []) (append-nil (ask_all n 0 (each_has c (type_at c p.node) ps))))
 
 -- its end where there is none: a list of any type
 pub ends_list_none : (a b d : Parts) (env : List Entry) (element m : ℕ) (ms : List ℕ) → TypesAny a b element → (IsNode b.store.nodes element → Makes b.store d.store m (Con list_path (codes "list") (element ∷ []))) → OnlyStore b d → EndsPatterns a d env (list_asks []) [] ms m
-ends_list_none a b d env element m ms any made rest = λ aloud F scope G n s all.
+ends_list_none a b d env element m ms any made rest = λ aloud F scope G n its s all.
     let x = any F scope G (letter n 0) (λ t. tt) s.reached in
     let z = list_over b d {scope = scope} x.means made rest in
     record {

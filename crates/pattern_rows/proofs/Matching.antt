@@ -228,17 +228,17 @@ or_operands n t formed row =
     ap (λ os. filled_in n t 0 ∷ os) (append-nil (operands_in n t 2))
 
 -- What comes of the sides of p | p, whose operands these are: a first one and others, which are asked beside it, and whose names are bound.
-pub record SidesCompared (b d : Parts) (os : List Numbered) (sides : List Side) (m : ℕ) (names more : List Bind) : Type 0 where
+pub record SidesCompared (b d : Parts) (env : List Entry) (os : List Numbered) (sides : List Side) (m : ℕ) (names more : List Bind) : Type 0 where
   pub first : Side
   pub rest : List Side
   pub split : sides ≡ first ∷ rest
-  pub asked : (o : Numbered) (others : List Numbered) → os ≡ o ∷ others → AsksLater b d first rest (patterns_of b.item others)
+  pub asked : (o : Numbered) (others : List Numbered) → os ≡ o ∷ others → AsksLater b d env first rest (patterns_of b.item others)
   pub node : first.node ≡ m
   pub bound : more ≡ names ++ first.names
 
 -- p | p
 pub or_matches : (a b d e : Parts) (env : List Entry) (number : ℕ) (t : Tree) (ty : NodeRef) (names more : List Bind) (seen then : List Name) (sides : List Side) → MatchesBeside a b env (all_operands number t) seen then sides → Goes a b →
-    ((o : Numbered) (os : List Numbered) → all_operands number t ≡ o ∷ os → SidesCompared b d (all_operands number t) sides ty.0 names more) → Goes b d → NotedNameless d e number env (Some ty) → OnlyIndex d e → MatchesNodeOf por_row a e env number t names more seen then ty.0
+    ((o : Numbered) (os : List Numbered) → all_operands number t ≡ o ∷ os → SidesCompared b d env (all_operands number t) sides ty.0 names more) → Goes b d → NotedNameless d e number env (Some ty) → OnlyIndex d e → MatchesNodeOf por_row a e env number t names more seen then ty.0
 or_matches a b d e env number t ty names more seen then sides matched goes compared on noted rest row place carried =
     let n = number_of a.item number in
     let x = filled_in number t 0 in
@@ -248,7 +248,7 @@ or_matches a b d e env number t ty names more seen then sides matched goes compa
     let cut : all_operands number t ≡ x ∷ others = or_operands number t carried.formed row in
     let all : MatchesSides a b env (p ∷ qs) seen sides × (then ≡ seen ++ all_mentions (p ∷ qs)) = subst (λ os. MatchesSides a b env (patterns_of a.item os) seen sides × (then ≡ seen ++ all_mentions (patterns_of a.item os))) cut (matched (row_patterns number place t (λ s. ap (λ r. sort_in r s) row) carried)) in
     let h = compared x others cut in
-    let asked : AsksLater b d h.first h.rest qs = subst (λ i. AsksLater b d h.first h.rest (patterns_of i others)) goes.item (h.asked x others cut) in
+    let asked : AsksLater b d env h.first h.rest qs = subst (λ i. AsksLater b d env h.first h.rest (patterns_of i others)) goes.item (h.asked x others cut) in
     let term = or_term a.item number place t carried.formed row in
     let here : MatchesRow a d env (row_pattern a.item number place t) seen h.first.names n ty.0 =
     or_row_typed a d env a.item number place t seen h.first.names ty.0 carried.formed row (subst (MatchesRow a d env (por n place p qs) seen h.first.names n) h.node

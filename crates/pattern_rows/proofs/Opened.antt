@@ -13,11 +13,13 @@ use Rattle.typing_conditions.specs.Carrying.{Asks, Scope, SeesScope, Carried, Ca
 use Rattle.typing_conditions.specs.Hiding.{is_doubtful, marked, is_sure, HasTyped, ArePlaced, NoneDoubtful, AreDone, Owns, AreSure, IsAmong}
 use Rattle.typing_conditions.proofs.Judged.{given_left, given_both, nodes_both}
 use Rattle.typing_conditions.proofs.Carried.{carried_trans, done_then, owns_last}
-use Rattle.typing_conditions.proofs.Hiding.{given_marked, nodes_marked, settles_closed, copy_first, copy_second, marked_copy, keeps_same, done_copies, done_on, owns_before, sure_marked}
+use Rattle.typing_conditions.proofs.Hiding.{given_marked, nodes_marked, settles_closed, copy_first, copy_second, marked_copy, keeps_same, done_copies, done_on, owns_before, sure_marked, copy_itself}
 use Rattle.typing_conditions.proofs.Keeping.{all_among, among_after}
 use Rattle.typing_conditions.proofs.Recording.{here_now, records_keep, told_at, told_hides}
 use Rattle.typing_steps.specs.Typing.{RowCarried}
 use Rattle.typing_rows.proofs.Own.{own_recorded}
+use Rattle.typing_conditions.proofs.Copies.{copied_after, copied_parts}
+use Rattle.typing_conditions.proofs.Stops.{lasts_same, stops_end}
 
 -- letters that are open may be grouped in another way: what is hidden is the same
 pub grouped_hides : {F : Frame} {scope : Scope} {asks : Asks} {a b : Sight} {G H K : Letters} (same : H ≡ K) (p : Carried F scope asks a G b H) → (subst (λ J. Carried F scope asks a G b J) same p).hidden ≡ p.hidden
@@ -84,6 +86,8 @@ carried_copied {F} {scope} {asks} {a} {b} {G} {H} some among p are_sure = record
     | inr short ↦ inr short
   ];
   first = p.first;
+  stops = stops_end p.told (lasts_same b (p.hidden ++ H) ((p.hidden ++ marked test some) ++ H) (copied_parts p.hidden H ((p.hidden ++ marked test some) ++ H)
+      (λ k x e. copy_first (p.hidden ++ marked test some) H (copy_first p.hidden (marked test some) (copy_itself p.hidden k x e))) (copied_after (p.hidden ++ marked test some) H))) p.stops;
 }
   where
     test : Key × ℕ → Bool

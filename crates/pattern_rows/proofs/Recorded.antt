@@ -21,14 +21,14 @@ use Rattle.typing_conditions.specs.Sights.{Sight, own, Letters, number_in}
 use Rattle.typing_conditions.specs.Frames.{Frame}
 use Rattle.typing_conditions.specs.Steps.{Records}
 use Rattle.typing_conditions.specs.Meanings.{Means}
-use Rattle.typing_conditions.specs.Carrying.{Scope, SeesScope, Carried}
+use Rattle.typing_conditions.specs.Carrying.{Scope, at_node, SeesScope, Carried}
 use Rattle.typing_conditions.specs.Hiding.{ArePlaced, AreDone, Owns, IsAmong}
-use Rattle.typing_conditions.proofs.Carried.{carried_trans, carried_as, done_then, done_as, owns_then, owns_as}
+use Rattle.typing_conditions.proofs.Carried.{carried_trans, carried_as, done_then, done_as, owns_then, owns_as, carried_row, row_hides}
 use Rattle.typing_conditions.proofs.Hiding.{keeps_same, done_none, done_on, owns_also}
 use Rattle.typing_conditions.proofs.Keeping.{none_among, among_after, carried_kept, kept_hides}
 use Rattle.typing_conditions.proofs.Framing.{open_on}
 use Rattle.typing_conditions.proofs.Recording.{records_stay, here_now}
-use Rattle.typing_conditions.proofs.Surrounding.{surrounds_sees}
+use Rattle.typing_conditions.proofs.Surrounding.{surrounds_sees, surrounds_at, own_node}
 use Rattle.typing_steps.specs.States.{is_aloud, sight}
 use Rattle.typing_steps.proofs.Rows.{row_any, var_any}
 use Rattle.typing_steps.proofs.Recording.{type_noted, nameless_noted}
@@ -42,7 +42,7 @@ use Rattle.pattern_rows.proofs.Naming.{adds_none}
 use Rattle.pattern_rows.proofs.Opened.{done_recorded}
 
 -- the row of a node, once its type is recorded
-pub row_recorded : {F : Frame} {scope : Scope} {a b d : Sight} {G : Letters} {p : Pattern} {seen : List Name} {added : List Bind} {n number m : ℕ} {opens : Letters} {env : List Entry} → number_in b.item number ≡ n → p.node ≡ n → RowMatched F scope a G b p seen added n m opens →
+pub row_recorded : {F : Frame} {scope : Scope} {a b d : Sight} {G : Letters} {p : Pattern} {seen : List Name} {added : List Bind} {n number m : ℕ} {opens : Letters} {env : List Entry} → number_in b.item number ≡ n → p.node ≡ n → RowMatched F (at_node n scope) a G b p seen added n m opens →
     Records b d number m env → SeesScope F scope a G env → MatchedTo F scope a G d (recorded_pattern n p) seen added m opens
 row_recorded {F} {scope} {a} {b} {d} {G} {p} {seen} {added} {n} {number} {m} {opens} place node row r sees =
     let own_letters : Letters = (own n, m) ∷ row.row.own in
@@ -54,8 +54,9 @@ row_recorded {F} {scope} {a} {b} {d} {G} {p} {seen} {added} {n} {number} {m} {op
     let among : IsAmong opens own_letters = among_after ((own n, m) ∷ []) row.among in
     let owned : F.known ≡ true → Owns n m b ends.hidden own_letters = λ known. owns_as row.row.all both (owns_also (own n) refl refl (owns_then row.row.typed.carried end (row.row.owns known))) in
     let sure = λ (known : F.known ≡ true) (placed : ArePlaced d). own_sure own_letters n place ends of_row r sees (owned known) known placed in
-    let whole : Carried F scope (λ c. tell_typed n c ++ p.matched c seen) a G d (opens ++ G) = carried_kept own_letters opens among noted sure in
-    let ready : AreDone d whole.hidden opens = done_on keeps_same (kept_hides own_letters opens among noted sure) (done_recorded n place ends of_row r sees (done_as row.row.all both (done_then row.row.typed.carried end row.done))) in
+    let inside : Carried F (at_node n scope) (λ c. tell_typed n c ++ p.matched c seen) a G d (opens ++ G) = carried_kept own_letters opens among noted sure in
+    let whole : Carried F scope (λ c. tell_typed n c ++ p.matched c seen) a G d (opens ++ G) = carried_row n inside in
+    let ready : AreDone d whole.hidden opens = subst (λ xs. AreDone d xs opens) (sym (row_hides scope n inside)) (done_on keeps_same (kept_hides own_letters opens among noted sure) (done_recorded n place ends of_row r sees (done_as row.row.all both (done_then row.row.typed.carried end row.done)))) in
     let means : Means F d (opens ++ G) (λ ch. ch.type_at n) m = record {
       open_node = open_on (records_stay {G = opens ++ G} r row.row.typed.means.open_node.inside) row.row.typed.means.open_node;
       is = λ V ch loose g. ap ch.type_at (sym place) ∙ g.recorded b.item number m (here_now r);
@@ -76,7 +77,7 @@ node_matched a b d env number at t ty noted_as seen added is in_scope row goes n
       let here = pattern_by_row a.item number at t in
       let node : (row_pattern a.item number at t).node ≡ number_of a.item number = sym (ap (λ p. p.node) here) ∙ (pattern_of_stands a.item (numbered number at (inner t))).number in
       subst (λ p. MatchedTo F scope (sight a) G (sight d) p seen added ty.0 row.opens) (sym here)
-      (row_recorded (ap (λ i. number_in i number) goes.item) node (row.typed aloud F scope G s) (subst (Records (sight b) (sight d) number ty.0) in_scope (type_noted b d number ty noted_as is loud noted rest)) (surrounds_sees s));
+      (row_recorded (ap (λ i. number_in i number) goes.item) node (row.typed aloud F (at_node (number_of a.item number) scope) G (own_node (number_of a.item number)) (surrounds_at (number_of a.item number) s)) (subst (Records (sight b) (sight d) number ty.0) in_scope (type_noted b d number ty noted_as is loud noted rest)) (surrounds_sees s));
 }
 
 -- the same of a node without names of its own
@@ -108,8 +109,8 @@ missing_matched a b d env o ty seen none made rest goes noted only = record {
   typed = λ aloud F scope G s.
       let n = number_of a.item o.number in
       let loud : is_aloud b.telling ≡ true = ap is_aloud goes.telling ∙ aloud in
-      let r = row_any a b {env = env} n (var_any a b made rest) aloud F scope G s in
-      let row : RowMatched F scope (sight a) G (sight b) (no_pattern_at n (place_of o.span)) seen [] n ty.0 [] = record { row = r; among = none_among r.own; done = done_none; names = λ e st h known. none_bound } in
+      let r = row_any a b {env = env} n (var_any a b made rest) aloud F (at_node n scope) G (own_node n) (surrounds_at n s) in
+      let row : RowMatched F (at_node n scope) (sight a) G (sight b) (no_pattern_at n (place_of o.span)) seen [] n ty.0 [] = record { row = r; among = none_among r.own; done = done_none; names = λ e st h known. none_bound } in
       let same : numbered o.number (place_of o.span) (missing (place_of o.span)) ≡ operand_view o = ap (λ m. numbered o.number (place_of o.span) (part_of m o.span)) (sym none) in
       subst (λ x. MatchedTo F scope (sight a) G (sight d) (pattern_of a.item x) seen [] ty.0 []) same
       (row_recorded (ap (λ i. number_in i o.number) goes.item) refl row (nameless_noted b d o.number env ty loud noted only) (surrounds_sees s));

@@ -33,7 +33,7 @@ use Rattle.typing_conditions.proofs.Hiding.{owns_done}
 use Rattle.typing_conditions.proofs.Keeping.{all_among}
 use Rattle.typing_conditions.proofs.Meaning.{means_on}
 use Rattle.typing_conditions.proofs.Stays.{stays_trans, stays_closed}
-use Rattle.typing_conditions.proofs.Surrounding.{surrounds_on}
+use Rattle.typing_conditions.proofs.Surrounding.{surrounds_on, surrounds_sees, sees_on}
 use Rattle.typing_steps.specs.States.{is_aloud, sight}
 use Rattle.typing_steps.specs.Typing.{AsksEqual}
 use Rattle.typing_steps.proofs.Making.{tuple_over, list_over}
@@ -56,9 +56,9 @@ pub over_row : (a b d : Parts) (env : List Entry) (n : ℕ) (at : Place) (ps : L
     MatchesRow a d env (over n at ps (λ c. asks c n)) seen added n m
 over_row a b d env n at ps seen added ms m asks all goes ends = record {
   opens = all.opens;
-  typed = λ aloud F scope G s.
+  typed = λ aloud F scope G its s.
       let x = all.typed aloud F scope G s in
-      let y = ends (ap is_aloud goes.telling ∙ aloud) F scope (all.opens ++ G) n (surrounds_on x.carried.stays s) x.means in
+      let y = ends (ap is_aloud goes.telling ∙ aloud) F scope (all.opens ++ G) n its (surrounds_on x.carried.stays s) x.means in
       let r = row_behind all.opens x.carried x.done y in
       record { row = r.row; among = r.among; done = r.done; names = λ e st h known. all_bound_on (stays_trans (stays_closed y.own y.typed.carried.stays) st) x.names };
 }
@@ -74,7 +74,7 @@ second_means p q ps k m ms (one_means h (one_means i hs)) = i
 
 -- an end that has the type of the first pattern
 pub ends_first : (a : Parts) (env : List Entry) (p : Pattern) (ps : List Pattern) (ms : List ℕ) (m : ℕ) → slice_get ms 0 ≡ Some m → EndsPatterns a a env (λ c n. same (type_at c n) (type_at c p.node) ∷ []) (p ∷ ps) ms m
-ends_first a env p ps ms m node = λ aloud F scope G n s all. row_of_type (λ c. []) (λ ch. ch.type_at p.node) carried_refl (first_means p ps ms m all node) (λ c. refl)
+ends_first a env p ps ms m node = λ aloud F scope G n its s all. row_of_type (λ c. []) (λ ch. ch.type_at p.node) carried_refl (first_means p ps ms m all node) (λ c. refl)
 
 -- ( p ), where no type is written
 pub paren_typed : (a b : Parts) (env : List Entry) (i n : ℕ) (at : Place) (t : Tree) (seen : List Name) (added : List Bind) (ms : List ℕ) (m : ℕ) → IsFormed n t → row_of t ≡ pparen_row → first_in n t 3 ≡ None → Goes a b →
@@ -92,8 +92,8 @@ written_asks p w c n = w.read c ++ ask n 0 p.at (equal (type_at c p.node) (type_
 
 -- its end: the pattern has the written type
 pub ends_written : (a b : Parts) (env : List Entry) (p : Pattern) (w : TypeExpression) (at : Place) (ms : List ℕ) (found wanted : ℕ) → p.at ≡ at → slice_get ms 0 ≡ Some found → Annotates a b env w at found wanted → EndsPatterns a b env (written_asks p w) (p ∷ []) ms wanted
-ends_written a b env p w at ms found wanted place node written = λ aloud F scope G n s all.
-    let x = written aloud F scope G n 0 (λ ch. ch.type_at p.node) s (first_means p [] ms found all node) in
+ends_written a b env p w at ms found wanted place node written = λ aloud F scope G n its s all.
+    let x = written aloud F scope G n 0 (λ ch. ch.type_at p.node) its s (first_means p [] ms found all node) in
     let y = subst (λ l. ReadAs F scope (λ c. w.read c ++ ask n 0 l (equal (type_at c p.node) (type_at c w.node))) (sight a) G (sight b) w.node wanted) (sym place) x in
     row_written (λ c. w.read c ++ ask n 0 p.at (equal (type_at c p.node) (type_at c w.node))) w y (λ c. refl)
 
@@ -115,7 +115,7 @@ types_by_at ch (p ∷ ps) = ap (λ ts. ch.type_at p.node ∷ ts) (types_by_at ch
 -- the end of p, p
 pub ends_tuple : (a b : Parts) (env : List Entry) (ps : List Pattern) (ms : List ℕ) (m : ℕ) → (All (IsNode a.store.nodes) ms → Makes a.store b.store m (Tuple ms)) → OnlyStore a b →
     EndsPatterns a b env (λ c n. same (type_at c n) (type.Tuple (types_of (map (λ p. type_at c p.node) ps))) ∷ []) ps ms m
-ends_tuple a b env ps ms m made rest = λ aloud F scope G n s all.
+ends_tuple a b env ps ms m made rest = λ aloud F scope G n its s all.
     let x = tuple_over a b {scope = scope} s.reached all made rest in
     row_of_type (λ c. []) (λ ch. type.Tuple (types_of (types_by ch (types_at ps)))) x.carried x.means (λ c. ap (λ ts. same (type_at c n) (type.Tuple (types_of ts)) ∷ []) (types_by_at c.chosen ps))
 
@@ -128,18 +128,18 @@ tuple_typed a b d env i n at t seen added ms m formed row goes all made rest =
     (over_row a b d env (number_of i n) at ps seen added ms m (λ c k. same (type_at c k) (type.Tuple (types_of (map (λ p. type_at c p.node) ps))) ∷ []) all goes (ends_tuple b d env ps ms m made rest))
 
 -- the end of p :: p
-pub ends_cons : (a b d : Parts) (env : List Entry) (p q : Pattern) (at : Place) (left right m : ℕ) → q.at ≡ at → (IsNode a.store.nodes left → Makes a.store b.store m (Con list_path (codes "list") (left ∷ []))) → OnlyStore a b → AsksEqual b d at right m →
+pub ends_cons : (a b d : Parts) (env : List Entry) (p q : Pattern) (at : Place) (left right m : ℕ) → q.at ≡ at → (IsNode a.store.nodes left → Makes a.store b.store m (Con list_path (codes "list") (left ∷ []))) → OnlyStore a b → AsksEqual b d env at right m →
     EndsPatterns a d env (cons_asks p q) (p ∷ q ∷ []) (left ∷ right ∷ []) m
-ends_cons a b d env p q at left right m place made rest asked = λ aloud F scope G n s all.
+ends_cons a b d env p q at left right m place made rest asked = λ aloud F scope G n its s all.
     let x = list_over a b {scope = scope} (first_means p (q ∷ []) (left ∷ right ∷ []) left all refl) made rest in
     let st = x.carried.stays in
-    let y = asked (st.aloud ∙ aloud) F scope G (site n 0) (λ ch. ch.type_at q.node) (λ ch. list_type (ch.type_at p.node)) (means_on st (second_means p q [] left right [] all)) x.means in
+    let y = asked (st.aloud ∙ aloud) F scope G (site n 0) (λ ch. ch.type_at q.node) (λ ch. list_type (ch.type_at p.node)) its (sees_on scope st s.reached (surrounds_sees s)) (means_on st (second_means p q [] left right [] all)) x.means in
     let z = subst (λ l. Carried F scope (λ c. ask n 0 l (equal (type_at c q.node) (list_type (type_at c p.node)))) (sight b) G (sight d) G) (sym place) y in
     row_of_type (λ c. ask n 0 q.at (equal (type_at c q.node) (list_type (type_at c p.node)))) (λ ch. list_type (ch.type_at p.node)) (carried_trans x.carried z) (means_on z.stays x.means) (λ c. refl)
 
 -- p :: p
 pub cons_typed : (a b d e : Parts) (env : List Entry) (i n : ℕ) (at place : Place) (t : Tree) (seen : List Name) (added : List Bind) (left right m : ℕ) → IsFormed n t → row_of t ≡ pcons_row → Goes a b → MatchesAll a b env (patterns_of i (all_operands n t)) seen added (left ∷ right ∷ []) →
-    (pattern_of i (filled_in n t 2)).at ≡ place → (IsNode b.store.nodes left → Makes b.store d.store m (Con list_path (codes "list") (left ∷ []))) → OnlyStore b d → AsksEqual d e place right m → MatchesRow a e env (row_pattern i n at t) seen added (number_of i n) m
+    (pattern_of i (filled_in n t 2)).at ≡ place → (IsNode b.store.nodes left → Makes b.store d.store m (Con list_path (codes "list") (left ∷ []))) → OnlyStore b d → AsksEqual d e env place right m → MatchesRow a e env (row_pattern i n at t) seen added (number_of i n) m
 unfolding is_operand is_needed may_repeat
 cons_typed a b d e env i n at place t seen added left right m formed row goes all here made rest asked =
     let p = pattern_of i (filled_in n t 0) in
@@ -153,7 +153,7 @@ pub as_typed : (a b d : Parts) (env : List Entry) (n : ℕ) (at : Place) (p : Pa
     AsksFresh b d t (seen ++ p.mentions) → IsEntry e t.name (in_text (place_of t)) ty → MatchesRow a d env (pas n at p (Some t)) seen (added ++ record { token = t; node = ty; entry = e } ∷ []) n ty.0
 as_typed a b d env n at p t ty e seen added ms all node goes fresh entry = record {
   opens = all.opens;
-  typed = λ aloud F scope G s.
+  typed = λ aloud F scope G its s.
       let x = all.typed aloud F scope G s in
       let h = first_means p [] ms ty.0 x.means node in
       let y = fresh (ap is_aloud goes.telling ∙ aloud) F scope (all.opens ++ G) n 0 in

@@ -29,7 +29,7 @@ pub record PatternAsked (env : List Entry) (F : Frame) (scope : Scope) (a : Sigh
 -- a pattern, which opens these letters, and the demand that it has a type, where one is wanted
 abbrev pub MatchesAsIf : (a b : Parts) → List Entry → Pattern → List Name → List Bind → Letters → (wanted : Option ℕ) → Type 0
 MatchesAsIf a b env p seen added opens None = is_aloud a.telling ≡ true → (F : Frame) (scope : Scope) (G : Letters) → Surrounds as_declared F (sight a) G env scope → PatternAsked env F scope (sight a) G (sight b) p seen (λ c. []) added opens
-MatchesAsIf a b env p seen added opens (Some wanted) = is_aloud a.telling ≡ true → (F : Frame) (scope : Scope) (G : Letters) (n k : ℕ) (t : Choice → Typ) → Surrounds as_declared F (sight a) G env scope → Means F (sight a) G t wanted →
+MatchesAsIf a b env p seen added opens (Some wanted) = is_aloud a.telling ≡ true → (F : Frame) (scope : Scope) (G : Letters) (n k : ℕ) (t : Choice → Typ) → scope.own n ≡ true → Surrounds as_declared F (sight a) G env scope → Means F (sight a) G t wanted →
     PatternAsked env F scope (sight a) G (sight b) p seen (λ c. ask n k p.at (equal (type_at c p.node) (t c.chosen))) added opens
 
 -- the same with the names that are added

@@ -64,7 +64,7 @@ pub record RowMatched (F : Frame) (scope : Scope) (a : Sight) (G : Letters) (b :
 -- the same of a call, where faults are reported; it opens the same letters whatever surrounds it
 pub record MatchesRow (a b : Parts) (env : List Entry) (p : Pattern) (seen : List Name) (added : List Bind) (n m : ℕ) : Type 0 where
   pub opens : Letters
-  pub typed : is_aloud a.telling ≡ true → (F : Frame) (scope : Scope) (G : Letters) → Surrounds as_declared F (sight a) G env scope → RowMatched F scope (sight a) G (sight b) p seen added n m opens
+  pub typed : is_aloud a.telling ≡ true → (F : Frame) (scope : Scope) (G : Letters) → scope.own n ≡ true → Surrounds as_declared F (sight a) G env scope → RowMatched F scope (sight a) G (sight b) p seen added n m opens
 
 -- the demand that a name is new among those before
 abbrev pub AsksFresh : (a b : Parts) → Tok → List Name → Type 0
@@ -116,7 +116,7 @@ pub record InOrderFirst (a b : Parts) (env : List Entry) (all left : List Patter
 
 -- the end of a row whose patterns are matched: its type, and what is asked besides; it binds no name of its own
 abbrev pub EndsPatterns : (a b : Parts) → List Entry → (Context → ℕ → List Condition) → List Pattern → List ℕ → (m : ℕ) → Type 0
-EndsPatterns a b env asks ps ms m = is_aloud a.telling ≡ true → (F : Frame) (scope : Scope) (G : Letters) (n : ℕ) → Surrounds as_declared F (sight a) G env scope → AllMean F (sight a) G (types_at ps) ms →
+EndsPatterns a b env asks ps ms m = is_aloud a.telling ≡ true → (F : Frame) (scope : Scope) (G : Letters) (n : ℕ) → scope.own n ≡ true → Surrounds as_declared F (sight a) G env scope → AllMean F (sight a) G (types_at ps) ms →
     RowCarried F scope (λ c. asks c n) (sight a) G (sight b) n m
 
 -- what [ p; p ] asks once its patterns are matched
@@ -137,10 +137,10 @@ pub record EqualFirst (F : Frame) (scope : Scope) (a : Sight) (G : Letters) (b :
 
 -- the demand that each of some patterns, whose nodes these are, has a type
 abbrev pub AsksEach : (a b : Parts) → List Entry → List Pattern → (nodes : List ℕ) → (wanted : ℕ) → Type 0
-AsksEach a b env ps nodes wanted = is_aloud a.telling ≡ true → (F : Frame) (scope : Scope) (G : Letters) (n : ℕ) (t : Choice → Typ) → Surrounds as_declared F (sight a) G env scope → AllMean F (sight a) G (types_at ps) nodes → Means F (sight a) G t wanted →
+AsksEach a b env ps nodes wanted = is_aloud a.telling ≡ true → (F : Frame) (scope : Scope) (G : Letters) (n : ℕ) (t : Choice → Typ) → scope.own n ≡ true → Surrounds as_declared F (sight a) G env scope → AllMean F (sight a) G (types_at ps) nodes → Means F (sight a) G t wanted →
     Carried F scope (λ c. ask_all n 0 (each_has c (t c.chosen) ps)) (sight a) G (sight b) G
 
 -- the same in a loop
 abbrev pub AsksEachFirst : (a b : Parts) → List Entry → (all left : List Pattern) → (nodes left_nodes : List ℕ) → (wanted : ℕ) → Type 0
-AsksEachFirst a b env all left nodes left_nodes wanted = is_aloud a.telling ≡ true → (F : Frame) (scope : Scope) (G : Letters) (n : ℕ) (t : Choice → Typ) → Surrounds as_declared F (sight a) G env scope → AllMean F (sight a) G (types_at all) nodes →
+AsksEachFirst a b env all left nodes left_nodes wanted = is_aloud a.telling ≡ true → (F : Frame) (scope : Scope) (G : Letters) (n : ℕ) (t : Choice → Typ) → scope.own n ≡ true → Surrounds as_declared F (sight a) G env scope → AllMean F (sight a) G (types_at all) nodes →
     Means F (sight a) G t wanted → EqualFirst F scope (sight a) G (sight b) n t all left left_nodes

@@ -10,9 +10,9 @@ use Rattle.typing_model.specs.Patterns.{ask_all, matched_each, find_bound, name_
 use Rattle.env_table.specs.declared.entries.Entry.{Entry}
 use Rattle.typing_state.specs.declared.parts.Parts.{Parts}
 use Rattle.typing_conditions.specs.Sights.{Sight, Letters}
-use Rattle.typing_conditions.specs.Frames.{Frame}
+use Rattle.typing_conditions.specs.Frames.{Frame, Reaches}
 use Rattle.typing_conditions.specs.Meanings.{Means}
-use Rattle.typing_conditions.specs.Carrying.{Asks, Scope, Carried}
+use Rattle.typing_conditions.specs.Carrying.{SeesScope, Asks, Scope, Carried}
 use Rattle.typing_conditions.specs.Hiding.{AreDone}
 use Rattle.typing_conditions.specs.Surroundings.{Surrounds}
 use Rattle.typing_steps.specs.States.{is_aloud, sight}
@@ -90,13 +90,13 @@ AsksSides a b at first later = is_aloud a.telling ≡ true → (F : Frame) (scop
     AllAsked F scope (sight a) G (sight b) n k (λ c. sides_differ at (name_apart xs ys))
 
 -- the demand that a name of the first side has its type on the later one
-abbrev pub AsksName : (a b : Parts) → Bind → List Bind → Type 0
-AsksName a b name later = is_aloud a.telling ≡ true → (F : Frame) (scope : Scope) (G : Letters) (n k : ℕ) (x : Bound) (ys : List Bound) → IsBound F (sight a) G x name → AllBound F (sight a) G ys later →
+abbrev pub AsksName : (a b : Parts) → List Entry → Bind → List Bind → Type 0
+AsksName a b env name later = is_aloud a.telling ≡ true → (F : Frame) (scope : Scope) (G : Letters) (n k : ℕ) (x : Bound) (ys : List Bound) → scope.own n ≡ true → SeesScope F scope (sight a) G env → IsBound F (sight a) G x name → AllBound F (sight a) G ys later →
     AllAsked F scope (sight a) G (sight b) n k (λ c. name_asks c x ys)
 
 -- the same of all names of the first side
-abbrev pub AsksNames : (a b : Parts) → (first later : List Bind) → Type 0
-AsksNames a b first later = is_aloud a.telling ≡ true → (F : Frame) (scope : Scope) (G : Letters) (n k : ℕ) (xs ys : List Bound) → AllBound F (sight a) G xs first → AllBound F (sight a) G ys later →
+abbrev pub AsksNames : (a b : Parts) → List Entry → (first later : List Bind) → Type 0
+AsksNames a b env first later = is_aloud a.telling ≡ true → (F : Frame) (scope : Scope) (G : Letters) (n k : ℕ) (xs ys : List Bound) → scope.own n ≡ true → Reaches F (sight a) → SeesScope F scope (sight a) G env → AllBound F (sight a) G xs first → AllBound F (sight a) G ys later →
     AllAsked F scope (sight a) G (sight b) n k (λ c. common_names c xs ys)
 
 -- the first of them were asked, and some are left
@@ -108,17 +108,17 @@ pub record NamesFirst (F : Frame) (scope : Scope) (a : Sight) (G : Letters) (b :
   pub asks : (c : Context) → common_names c xs ys ≡ front c ++ common_names c rest ys
 
 -- the same in a loop
-abbrev pub AsksNamesFirst : (a b : Parts) → (first left later : List Bind) → Type 0
-AsksNamesFirst a b first left later = is_aloud a.telling ≡ true → (F : Frame) (scope : Scope) (G : Letters) (n k : ℕ) (xs ys : List Bound) → AllBound F (sight a) G xs first → AllBound F (sight a) G ys later →
+abbrev pub AsksNamesFirst : (a b : Parts) → List Entry → (first left later : List Bind) → Type 0
+AsksNamesFirst a b env first left later = is_aloud a.telling ≡ true → (F : Frame) (scope : Scope) (G : Letters) (n k : ℕ) (xs ys : List Bound) → scope.own n ≡ true → Reaches F (sight a) → SeesScope F scope (sight a) G env → AllBound F (sight a) G xs first → AllBound F (sight a) G ys later →
     NamesFirst F scope (sight a) G (sight b) n k xs ys left
 
 -- what is asked of a later side beside the first
-abbrev pub AsksBeside : (a b : Parts) → (first side : Side) → Place → Type 0
-AsksBeside a b first side at = is_aloud a.telling ≡ true → (F : Frame) (scope : Scope) (G : Letters) (n k : ℕ) (p q : Pattern) → IsSide F (sight a) G p first → IsSide F (sight a) G q side → q.at ≡ at → AllAsked F scope (sight a) G (sight b) n k (λ c. side_beside c p q)
+abbrev pub AsksBeside : (a b : Parts) → List Entry → (first side : Side) → Place → Type 0
+AsksBeside a b env first side at = is_aloud a.telling ≡ true → (F : Frame) (scope : Scope) (G : Letters) (n k : ℕ) (p q : Pattern) → scope.own n ≡ true → SeesScope F scope (sight a) G env → IsSide F (sight a) G p first → IsSide F (sight a) G q side → q.at ≡ at → AllAsked F scope (sight a) G (sight b) n k (λ c. side_beside c p q)
 
 -- what is asked of all later sides
-abbrev pub AsksLater : (a b : Parts) → Side → List Side → List Pattern → Type 0
-AsksLater a b first sides ps = is_aloud a.telling ≡ true → (F : Frame) (scope : Scope) (G : Letters) (n k : ℕ) (p : Pattern) → IsSide F (sight a) G p first → AllSides F (sight a) G ps sides → AllAsked F scope (sight a) G (sight b) n k (λ c. sides_beside c p ps)
+abbrev pub AsksLater : (a b : Parts) → List Entry → Side → List Side → List Pattern → Type 0
+AsksLater a b env first sides ps = is_aloud a.telling ≡ true → (F : Frame) (scope : Scope) (G : Letters) (n k : ℕ) (p : Pattern) → scope.own n ≡ true → SeesScope F scope (sight a) G env → IsSide F (sight a) G p first → AllSides F (sight a) G ps sides → AllAsked F scope (sight a) G (sight b) n k (λ c. sides_beside c p ps)
 
 -- the first of them were asked, and some are left
 pub record LaterFirst (F : Frame) (scope : Scope) (a : Sight) (G : Letters) (b : Sight) (n k : ℕ) (p : Pattern) (ps rest : List Pattern) (left : List Side) : Type 0 where
@@ -128,6 +128,6 @@ pub record LaterFirst (F : Frame) (scope : Scope) (a : Sight) (G : Letters) (b :
   pub asks : (c : Context) → sides_beside c p ps ≡ front c ++ sides_beside c p rest
 
 -- the same in a loop
-abbrev pub AsksLaterFirst : (a b : Parts) → Side → (sides left : List Side) → (ps rest : List Pattern) → Type 0
-AsksLaterFirst a b first sides left ps rest = is_aloud a.telling ≡ true → (F : Frame) (scope : Scope) (G : Letters) (n k : ℕ) (p : Pattern) → IsSide F (sight a) G p first → AllSides F (sight a) G ps sides →
+abbrev pub AsksLaterFirst : (a b : Parts) → List Entry → Side → (sides left : List Side) → (ps rest : List Pattern) → Type 0
+AsksLaterFirst a b env first sides left ps rest = is_aloud a.telling ≡ true → (F : Frame) (scope : Scope) (G : Letters) (n k : ℕ) (p : Pattern) → scope.own n ≡ true → SeesScope F scope (sight a) G env → IsSide F (sight a) G p first → AllSides F (sight a) G ps sides →
     LaterFirst F scope (sight a) G (sight b) n k p ps rest left

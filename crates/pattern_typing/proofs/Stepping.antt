@@ -91,7 +91,7 @@ beside_step a b d env all i x seen now then last apart more sides longer side be
 
 -- one pattern more that has a type
 pub equal_step : (a b d : Parts) (env : List Entry) (all : List TypedPart) (i : ℕ) (x : TypedPart) (wanted : ℕ) → i < length all → x ≡ slice_index_or all i x → Goes a b →
-    AsksEachFirst a b env (patterns_of a.item (typed_view all)) (patterns_of a.item (typed_view (drop i all))) (nodes_of all) (nodes_of (drop i all)) wanted → AsksEqual b d (place_of x.part.span) x.ty.0 wanted →
+    AsksEachFirst a b env (patterns_of a.item (typed_view all)) (patterns_of a.item (typed_view (drop i all))) (nodes_of all) (nodes_of (drop i all)) wanted → AsksEqual b d env (place_of x.part.span) x.ty.0 wanted →
     AsksEachFirst a d env (patterns_of a.item (typed_view all)) (patterns_of a.item (typed_view (drop (i + 1) all))) (nodes_of all) (nodes_of (drop (i + 1) all)) wanted
 equal_step a b d env all i x wanted lt is goes first asked =
     let cut = drop_read all i x lt is in
@@ -100,18 +100,18 @@ equal_step a b d env all i x wanted lt is goes first asked =
     (pattern_of_stands a.item (operand_view x.part)).where_it_is goes first asked
 
 -- one name more of the first side
-pub name_step : (a b d : Parts) (all : List BoundName) (i : ℕ) (x : BoundName) (later : List Bind) → i < length all → x ≡ slice_index_or all i x → Goes a b → AsksNamesFirst a b (binds_of all) (binds_of (drop i all)) later → AsksName b d (bind_of x) later →
-    AsksNamesFirst a d (binds_of all) (binds_of (drop (i + 1) all)) later
-name_step a b d all i x later lt is goes first one = names_more a b d (binds_of all) (binds_of (drop i all)) (binds_of (drop (i + 1) all)) later (bind_of x) (ap binds_of (drop_read all i x lt is)) goes first one
+pub name_step : (a b d : Parts) (env : List Entry) (all : List BoundName) (i : ℕ) (x : BoundName) (later : List Bind) → i < length all → x ≡ slice_index_or all i x → Goes a b → AsksNamesFirst a b env (binds_of all) (binds_of (drop i all)) later → AsksName b d env (bind_of x) later →
+    AsksNamesFirst a d env (binds_of all) (binds_of (drop (i + 1) all)) later
+name_step a b d env all i x later lt is goes first one = names_more a b d env (binds_of all) (binds_of (drop i all)) (binds_of (drop (i + 1) all)) later (bind_of x) (ap binds_of (drop_read all i x lt is)) goes first one
 
 -- one later side more
-pub later_step : (a b d : Parts) (first : rules.Side) (all : List SideMatch) (k : ℕ) (x : SideMatch) (i : ℕ) → k < length all → x ≡ slice_index_or all k x → Goes a b →
-    AsksLaterFirst a b first (map side_of all) (map side_of (drop k all)) (patterns_of i (parts_of_sides all)) (patterns_of i (parts_of_sides (drop k all))) → AsksBeside b d first (side_of x) (place_of x.part.span) →
-    AsksLaterFirst a d first (map side_of all) (map side_of (drop (k + 1) all)) (patterns_of i (parts_of_sides all)) (patterns_of i (parts_of_sides (drop (k + 1) all)))
-later_step a b d first all k x i lt is goes so_far one =
+pub later_step : (a b d : Parts) (env : List Entry) (first : rules.Side) (all : List SideMatch) (k : ℕ) (x : SideMatch) (i : ℕ) → k < length all → x ≡ slice_index_or all k x → Goes a b →
+    AsksLaterFirst a b env first (map side_of all) (map side_of (drop k all)) (patterns_of i (parts_of_sides all)) (patterns_of i (parts_of_sides (drop k all))) → AsksBeside b d env first (side_of x) (place_of x.part.span) →
+    AsksLaterFirst a d env first (map side_of all) (map side_of (drop (k + 1) all)) (patterns_of i (parts_of_sides all)) (patterns_of i (parts_of_sides (drop (k + 1) all)))
+later_step a b d env first all k x i lt is goes so_far one =
     let cut = drop_read all k x lt is in
     let ps : List SideMatch → List Pattern = λ ss. patterns_of i (parts_of_sides ss) in
-    later_more a b d first (side_of x) (map side_of all) (map side_of (drop k all)) (map side_of (drop (k + 1) all)) (ps all) (ps (drop k all)) (ps (drop (k + 1) all)) (pattern_of i (operand_view x.part)) (place_of x.part.span) (ap (map side_of) cut) (ap ps cut)
+    later_more a b d env first (side_of x) (map side_of all) (map side_of (drop k all)) (map side_of (drop (k + 1) all)) (ps all) (ps (drop k all)) (ps (drop (k + 1) all)) (pattern_of i (operand_view x.part)) (place_of x.part.span) (ap (map side_of) cut) (ap ps cut)
     (pattern_of_stands i (operand_view x.part)).where_it_is goes so_far one
 
 -- two typed patterns
@@ -130,7 +130,7 @@ are_two (a ∷ b ∷ c ∷ ts) o p e = absurd (let tail : typed_view (b ∷ c �
 
 -- the end of p :: p
 pub cons_end : (a b d : Parts) (env : List Entry) (ts : List TypedPart) (x y : TypedPart) (m : ℕ) (o p : Numbered) → ts ≡ x ∷ y ∷ [] → typed_view ts ≡ o ∷ p ∷ [] → (IsNode a.store.nodes x.ty.0 → Makes a.store b.store m (Con list_path (codes "list") (x.ty.0 ∷ []))) → OnlyStore a b →
-    AsksEqual b d (place_of y.part.span) y.ty.0 m → EndsPatterns a d env (cons_asks (pattern_of a.item o) (pattern_of a.item p)) (pattern_of a.item o ∷ pattern_of a.item p ∷ []) (nodes_of ts) m
+    AsksEqual b d env (place_of y.part.span) y.ty.0 m → EndsPatterns a d env (cons_asks (pattern_of a.item o) (pattern_of a.item p)) (pattern_of a.item o ∷ pattern_of a.item p ∷ []) (nodes_of ts) m
 cons_end a b d env ts x y m o p two is made rest asked =
     let both : operand_view x.part ∷ operand_view y.part ∷ [] ≡ o ∷ p ∷ [] = sym (ap typed_view two) ∙ is in
     let head : operand_view x.part ≡ o = cc in
@@ -196,12 +196,12 @@ beside_none a env ps seen apart sides none no_sides = record {
 }
 
 -- the sides of an or-pattern, once they are compared and the names of the first are bound
-pub sides_compared : (b c d : Parts) (os : List Numbered) (ss : List SideMatch) (m : ℕ) (names more : List BoundName) → parts_of_sides ss ≡ os →
-    ((i : ℕ) (x : rules.Side) (xs : List rules.Side) (o : Numbered) (others : List Numbered) → map side_of ss ≡ x ∷ xs → parts_of_sides ss ≡ o ∷ others → AsksLater b c x xs (patterns_of i others)) →
+pub sides_compared : (b c d : Parts) (env : List Entry) (os : List Numbered) (ss : List SideMatch) (m : ℕ) (names more : List BoundName) → parts_of_sides ss ≡ os →
+    ((i : ℕ) (x : rules.Side) (xs : List rules.Side) (o : Numbered) (others : List Numbered) → map side_of ss ≡ x ∷ xs → parts_of_sides ss ≡ o ∷ others → AsksLater b c env x xs (patterns_of i others)) →
     ((x : rules.Side) (xs : List rules.Side) → map side_of ss ≡ x ∷ xs → (x.node ≡ m) × (binds_of more ≡ binds_of names ++ x.names) × (d ≡ c)) →
-    (o : Numbered) (others : List Numbered) → os ≡ o ∷ others → SidesCompared b d os (map side_of ss) m (binds_of names) (binds_of more)
-sides_compared b c d os [] m names more parts asked first o others is = absurd (let none : [] ≡ o ∷ others = parts ∙ is in cc)
-sides_compared b c d os (s ∷ ss) m names more parts asked first o others is =
+    (o : Numbered) (others : List Numbered) → os ≡ o ∷ others → SidesCompared b d env os (map side_of ss) m (binds_of names) (binds_of more)
+sides_compared b c d env os [] m names more parts asked first o others is = absurd (let none : [] ≡ o ∷ others = parts ∙ is in cc)
+sides_compared b c d env os (s ∷ ss) m names more parts asked first o others is =
     let x = side_of s in
     let xs = map side_of ss in
     let h = first x xs refl in
@@ -209,18 +209,18 @@ sides_compared b c d os (s ∷ ss) m names more parts asked first o others is =
       first = x;
       rest = xs;
       split = refl;
-      asked = λ p qs cut. subst (λ e. AsksLater b e x xs (patterns_of b.item qs)) (sym h.2) (asked b.item x xs p qs refl (parts ∙ cut));
+      asked = λ p qs cut. subst (λ e. AsksLater b e env x xs (patterns_of b.item qs)) (sym h.2) (asked b.item x xs p qs refl (parts ∙ cut));
       node = h.0;
       bound = h.1;
     }
 
 -- what later sides are asked beside the first, by their operands
-pub later_asked : (a b : Parts) (ss rest : List SideMatch) (s : SideMatch) → ss ≡ s ∷ rest → ((i : ℕ) → AsksLater a b (side_of s) (map side_of rest) (patterns_of i (parts_of_sides rest))) →
-    (i : ℕ) (x : rules.Side) (xs : List rules.Side) (o : Numbered) (os : List Numbered) → map side_of ss ≡ x ∷ xs → parts_of_sides ss ≡ o ∷ os → AsksLater a b x xs (patterns_of i os)
-later_asked a b ss rest s split asked i x xs o os sides parts =
+pub later_asked : (a b : Parts) (env : List Entry) (ss rest : List SideMatch) (s : SideMatch) → ss ≡ s ∷ rest → ((i : ℕ) → AsksLater a b env (side_of s) (map side_of rest) (patterns_of i (parts_of_sides rest))) →
+    (i : ℕ) (x : rules.Side) (xs : List rules.Side) (o : Numbered) (os : List Numbered) → map side_of ss ≡ x ∷ xs → parts_of_sides ss ≡ o ∷ os → AsksLater a b env x xs (patterns_of i os)
+later_asked a b env ss rest s split asked i x xs o os sides parts =
     let both : side_of s ∷ map side_of rest ≡ x ∷ xs = sym (ap (map side_of) split) ∙ sides in
     let operands : operand_view s.part ∷ parts_of_sides rest ≡ o ∷ os = sym (ap parts_of_sides split) ∙ parts in
     let head : side_of s ≡ x = cc in
     let tail : map side_of rest ≡ xs = cc in
     let others : parts_of_sides rest ≡ os = cc in
-    subst (λ y. AsksLater a b y xs (patterns_of i os)) head (subst (λ ys. AsksLater a b (side_of s) ys (patterns_of i os)) tail (subst (λ qs. AsksLater a b (side_of s) (map side_of rest) (patterns_of i qs)) others (asked i)))
+    subst (λ y. AsksLater a b env y xs (patterns_of i os)) head (subst (λ ys. AsksLater a b env (side_of s) ys (patterns_of i os)) tail (subst (λ qs. AsksLater a b env (side_of s) (map side_of rest) (patterns_of i qs)) others (asked i)))

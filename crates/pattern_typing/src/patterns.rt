@@ -767,7 +767,7 @@ fn append<T: Drop>(list: &mut Vec<T>, more: Vec<T>) -> Result<(), NoMemory>
 
 /// The demands of each later side beside the first.
 fn compare_sides(at: &mut Parts, sides: &[SideMatch<'_>], env: &Env) -> Result<(), NoMemory>
-    ensures carries { OnOk result ((i : ℕ) (x : Side) (xs : List Side) (o : Numbered) (os : List Numbered) → map side_of sides.now ≡ x ∷ xs → parts_of_sides sides.now ≡ o ∷ os → AsksLater at.old at.new x xs (patterns_of i os)) }
+    ensures carries { OnOk result ((i : ℕ) (x : Side) (xs : List Side) (o : Numbered) (os : List Numbered) → map side_of sides.now ≡ x ∷ xs → parts_of_sides sides.now ≡ o ∷ os → AsksLater at.old at.new env.now x xs (patterns_of i os)) }
     ensures goes { Goes at.old at.new }
 {
     match sides.split_first() {
@@ -783,7 +783,7 @@ fn compare_later(
     sides: &[SideMatch<'_>],
     env: &Env,
 ) -> Result<(), NoMemory>
-    ensures carries { OnOk result ((i : ℕ) → AsksLater at.old at.new (side_of first.now) (map side_of sides.now) (patterns_of i (parts_of_sides sides.now))) }
+    ensures carries { OnOk result ((i : ℕ) → AsksLater at.old at.new env.now (side_of first.now) (map side_of sides.now) (patterns_of i (parts_of_sides sides.now))) }
     ensures goes { Goes at.old at.new }
 {
     for side in sides {
@@ -799,7 +799,7 @@ fn compare_side(
     side: &SideMatch<'_>,
     env: &Env,
 ) -> Result<(), NoMemory>
-    ensures carries { OnOk result (AsksBeside at.old at.new (side_of first.now) (side_of side.now) (place_of side.now.part.span)) }
+    ensures carries { OnOk result (AsksBeside at.old at.new env.now (side_of first.now) (side_of side.now) (place_of side.now.part.span)) }
     ensures goes { Goes at.old at.new }
 {
     ask_sides(at, first, side)?;
@@ -860,7 +860,7 @@ fn compare_names(
     later: &[BoundName<'_>],
     env: &Env,
 ) -> Result<(), NoMemory>
-    ensures carries { OnOk result (AsksNames at.old at.new (binds_of first.now) (binds_of later.now)) }
+    ensures carries { OnOk result (AsksNames at.old at.new env.now (binds_of first.now) (binds_of later.now)) }
     ensures goes { Goes at.old at.new }
 {
     for name in first {
@@ -876,7 +876,7 @@ fn compare_name(
     later: &[BoundName<'_>],
     env: &Env,
 ) -> Result<(), NoMemory>
-    ensures carries { OnOk result (AsksName at.old at.new (bind_of name.now) (binds_of later.now)) }
+    ensures carries { OnOk result (AsksName at.old at.new env.now (bind_of name.now) (binds_of later.now)) }
     ensures goes { Goes at.old at.new }
 {
     if let Some(other) = find(name.token, later) {

@@ -12,6 +12,7 @@ ghost use Rattle.std.specs.Prelude.{◌≡◌, ℕ, Bool, true, List, codes, map
 ghost use Rattle.token_model.specs.Kinds.{Tok};
 ghost use Rattle.token_model.specs.Tokens.{Lex};
 ghost use Rattle.tree_model.specs.Trees.{Tree};
+ghost use Rattle.query_model.specs.Faults.{TyperFault};
 ghost use Rattle.query_model.specs.TypedNodes.{Typed, typed_at};
 ghost use Rattle.type_model.specs.Types.{Path, Typ};
 ghost use Rattle.signature_model.specs.Declarations.{Name};
@@ -27,7 +28,7 @@ ghost use Rattle.typing_model.specs.Typings.{conditions_of, outermost, IsMostGen
 ghost use Rattle.typing_model.specs.First.{IsFirst, IsSetting, IsFound, program_items};
 ghost use Rattle.typing_model.specs.Demands.{Site};
 ghost use Rattle.typing_model.specs.Plain.{has_no_modules, has_lets_alone, has_values_alone};
-ghost use Rattle.fault_model.specs.Refused.{Refused, AreRefused};
+ghost use Rattle.fault_model.specs.Refused.{standing, AreRefused};
 ghost use Rattle.fault_model.specs.Values.{are_bare};
 ghost use Rattle.typing_model.specs.PreludeText.{prelude_text};
 ghost use Rattle.typed_model.specs.Shown.{IsToldTyped, IsTypingOf, AreShown, asked};
@@ -70,9 +71,9 @@ pub fn kept_demands_that_are_found_are_one()
     ensures { (text : List ℕ) (kept others : Site → Bool) (types shown : ℕ → Typ) (f : IsFound text kept types) → has_no_modules f.items ≡ true → IsFound text others shown → (s : Site) → kept s ≡ others s }
 {}
 
-/// The places and kinds of the faults of items that are `let`, exceptions and `;;` alone are one, and so are the messages of those on names.
+/// The places and kinds of the faults of items that are `let`, exceptions and `;;` alone are one, but for warnings, and so are the messages of those on names.
 pub fn faults_of_values_are_one()
-    ensures { (items : List Tree) (faults others : List Refused) → has_values_alone items ≡ true → AreRefused items faults → AreRefused items others → faults ≡ others }
+    ensures { (items : List Tree) (faults others : List TyperFault) → has_values_alone items ≡ true → AreRefused items faults → AreRefused items others → standing faults ≡ standing others }
 {}
 
 /// Each constructor in the type of a node of such items that is told with it is one of the types of the first environment, and a path

@@ -5,5 +5,8 @@ pub mod Ascii
 pub mod Printing
 pub mod Declared
 pub mod Over
+pub mod Values
 pub mod One
 pub mod Texts
+pub mod Unifiable
+pub mod Messages

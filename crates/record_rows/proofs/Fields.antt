@@ -1,6 +1,5 @@
 -- The fields of a record pattern, each after the labels and the names of those before.
-use Rattle.std.proofs.Common.{◌≡◌, ◌∙◌, ◌++◌, ℕ, Bool, true, false, List, [], ◌∷◌, Option, Some, None, option_map, refl, sym, ap, subst, append-nil, if◌then◌else◌}
-use Rattle.std.proofs.Common.{append_assoc}
+use Rattle.std.proofs.Common.{◌≡◌, ◌∙◌, ◌++◌, ℕ, Bool, true, false, List, [], ◌∷◌, Option, Some, None, option_map, refl, sym, ap, subst, append-nil, if◌then◌else◌, append_assoc}
 use Rattle.token_model.specs.Kinds.{Tok}
 use Rattle.type_model.specs.Types.{Typ}
 use Rattle.signature_model.specs.Declarations as rules
@@ -15,14 +14,14 @@ use Rattle.typing_state.specs.declared.parts.Parts.{Parts}
 use Rattle.typing_state.specs.Goes.{Goes}
 use Rattle.typing_conditions.specs.Sights.{Sight, Letters, AreNodes}
 use Rattle.typing_conditions.specs.Frames.{Frame}
-use Rattle.typing_conditions.specs.Carrying.{Scope, Stays, Carried}
+use Rattle.typing_conditions.specs.Carrying.{Scope, Stays, Carried, at_node}
 use Rattle.typing_conditions.specs.Surroundings.{Surrounds}
 use Rattle.typing_conditions.specs.Hiding.{ArePlaced, AreDone, IsAmong}
-use Rattle.typing_conditions.proofs.Carried.{carried_refl, carried_trans, carried_as, done_as, done_then, done_last}
+use Rattle.typing_conditions.proofs.Carried.{carried_refl, carried_trans, carried_as, done_as, done_then, done_last, carried_row, row_hides}
 use Rattle.typing_conditions.proofs.Meaning.{means_on, nodes_in}
 use Rattle.typing_conditions.proofs.Recording.{told_at}
 use Rattle.typing_conditions.proofs.Stays.{stays_closed}
-use Rattle.typing_conditions.proofs.Surrounding.{surrounds_on, surrounds_sees}
+use Rattle.typing_conditions.proofs.Surrounding.{surrounds_on, surrounds_sees, surrounds_at, own_node}
 use Rattle.typing_conditions.proofs.Hiding.{keeps_same, done_none, done_both, done_on, done_sure}
 use Rattle.typing_conditions.proofs.Keeping.{all_among, among_before, carried_kept, kept_hides}
 use Rattle.typing_steps.specs.States.{is_aloud, sight}
@@ -75,14 +74,14 @@ field_is c n k (Some d) p = by p.last
 -- a field with a pattern of its own, which has the type of the field; its node is recorded before
 pub pattern_ends : (b d : Parts) (env : List Entry) (k : ℕ) (l : Written) (p : Pattern) (names names' : List Bind) (seen seen' : List Name) (ty : Option ℕ) → (is_aloud b.telling ≡ true → HasScope (sight b) k env) → MatchesWanted b d env p names names' seen seen' ty →
     FieldAdds b d env (record { node = k; label = l; pattern = Some p }) names names' seen seen' ty
-pattern_ends b d env k l p names names' seen seen' ty recorded matched = record { added = matched.added; adds = matched.adds; typed = record { opens = matched.opens; typed = λ aloud F scope G n t s has. by aloud F scope G n t ty s has matched.typed } }
+pattern_ends b d env k l p names names' seen seen' ty recorded matched = record { added = matched.added; adds = matched.adds; typed = record { opens = matched.opens; typed = λ aloud F scope G n t its s has. by aloud F scope G n t ty its s has matched.typed } }
   where
-    by : is_aloud b.telling ≡ true → (F : Frame) (scope : Scope) (G : Letters) (n : ℕ) (t : Option (Choice → Typ)) (ty : Option ℕ) → Surrounds as_declared F (sight b) G env scope → HasIfThere F (sight b) G t ty → MatchesAsIf b d env p seen matched.added matched.opens ty →
+    by : is_aloud b.telling ≡ true → (F : Frame) (scope : Scope) (G : Letters) (n : ℕ) (t : Option (Choice → Typ)) (ty : Option ℕ) → scope.own k ≡ true → Surrounds as_declared F (sight b) G env scope → HasIfThere F (sight b) G t ty → MatchesAsIf b d env p seen matched.added matched.opens ty →
         FieldEnded env F scope (sight b) G (sight d) n (record { node = k; label = l; pattern = Some p }) seen t matched.added matched.opens
-    by aloud F scope G n None None s has typed = let x = typed aloud F scope G s in record { carried = x.carried; done = x.done; names = x.names; scoped = scope_on x.carried.stays (recorded aloud) }
-    by aloud F scope G n (Some t) (Some m) s has typed = let x = typed aloud F scope G k 1 t s has in record { carried = x.carried; done = x.done; names = x.names; scoped = scope_on x.carried.stays (recorded aloud) }
-    by aloud F scope G n None (Some m) s has typed = absurd has
-    by aloud F scope G n (Some t) None s has typed = absurd has
+    by aloud F scope G n None None its s has typed = let x = typed aloud F scope G s in record { carried = x.carried; done = x.done; names = x.names; scoped = scope_on x.carried.stays (recorded aloud) }
+    by aloud F scope G n (Some t) (Some m) its s has typed = let x = typed aloud F scope G k 1 t its s has in record { carried = x.carried; done = x.done; names = x.names; scoped = scope_on x.carried.stays (recorded aloud) }
+    by aloud F scope G n None (Some m) its s has typed = absurd has
+    by aloud F scope G n (Some t) None its s has typed = absurd has
 
 -- the beginning of a field, whatever is known of its record
 pub record FieldBegun (F : Frame) (scope : Scope) (a : Sight) (G : Letters) (b : Sight) (n k : ℕ) (found : Option rules.Declaration) (labels : List Name) (p : Written) (ty : Option ℕ) : Type 0 where
@@ -140,20 +139,22 @@ fields_more a b mid told d env here all left rest f seen labels now after added 
       let loud : is_aloud b.telling ≡ true = ap is_aloud goes.telling ∙ aloud in
       let louder : is_aloud told.telling ≡ true = ap is_aloud goes''.telling ∙ ap is_aloud goes'.telling ∙ loud in
       let H : Letters = first.opens ++ (K ++ G) in
-      let y = field_begun b mid {scope = scope} n f.node here found labels f.label ty loud (known_on n here found x.carried.stays known) begins in
-      let z = noted F scope (y.letters ++ H) in
+      let inner = at_node f.node scope in
+      let y = field_begun b mid {scope = inner} n f.node here found labels f.label ty loud (known_on n here found x.carried.stays known) begins in
+      let z = noted F inner (y.letters ++ H) in
       let has = has_on (type_in n f.node found f.label) ty z.stays y.has_type in
       let outer : Surrounds as_declared F (sight a) (K ++ G) env scope = surrounds_on (stays_more K nodes) s in
       let begun = carried_trans y.carried z in
-      let w = ends.typed louder F scope (y.letters ++ H) n (type_in n f.node found f.label) (surrounds_on begun.stays (surrounds_on x.carried.stays outer)) has in
+      let w = ends.typed louder F inner (y.letters ++ H) n (type_in n f.node found f.label) (own_node f.node) (surrounds_at f.node (surrounds_on begun.stays (surrounds_on x.carried.stays outer))) has in
       let one = λ (c : Context). match_field c n (is_there found) f labels now (field_type c n f.node found f.label) in
       let both = carried_trans begun w.carried in
       let sees = surrounds_sees (surrounds_on x.carried.stays outer) in
       let from_start = told_at f.node w.scoped.number both w.scoped.at sees in
-      let whole = carried_as (λ c. field_asked c n found f labels now) from_start in
+      let row = carried_row {scope = scope} f.node from_start in
+      let whole = carried_as (λ c. field_asked c n found f labels now) row in
       let same = sym (append_assoc ends.opens y.letters H) in
       let grouped = subst (λ J. Carried F scope one (sight b) H (sight d) J) same whole in
-      let ready : AreDone (sight d) grouped.hidden ends.opens = done_grouped same whole (done_as (λ c. field_asked c n found f labels now) from_start (done_told f.node w.scoped.number both w.scoped.at sees (done_last begun w.carried w.done))) in
+      let ready : AreDone (sight d) grouped.hidden ends.opens = done_grouped same whole (done_as (λ c. field_asked c n found f labels now) row (subst (λ zs. AreDone (sight d) zs ends.opens) (sym (row_hides scope f.node from_start)) (done_told f.node w.scoped.number both w.scoped.at sees (done_last begun w.carried w.done)))) in
       let among : IsAmong ends.opens (ends.opens ++ y.letters) = among_before y.letters (all_among ends.opens) in
       let sure = λ (all_known : F.known ≡ true) (placed : ArePlaced (sight d)). done_sure grouped.hidden grouped.settled placed (grouped.clear all_known placed)
       (subst (λ zs. AreDone (sight d) grouped.hidden (ends.opens ++ zs)) (sym (y.none all_known)) (done_both ready done_none)) in
@@ -163,7 +164,7 @@ fields_more a b mid told d env here all left rest f seen labels now after added 
       let closed : Stays F (sight b) (first.opens ++ G) (sight d) (ends.opens ++ (first.opens ++ G)) = stays_without first.opens K ends.opens G here_now step.stays in
       let told_closed : Stays F (sight b) (first.opens ++ G) (sight told) (first.opens ++ G) = stays_without first.opens K [] G here_now (stays_closed y.letters begun.stays) in
       let before : Stays F (sight a) G (sight b) (first.opens ++ G) = stays_without [] K first.opens G nodes x.carried.stays in
-      let added_names = all_bound_both (all_bound_on closed x.names) (w.names (first.opens ++ G) (surrounds_on told_closed (surrounds_on before s))) in
+      let added_names = all_bound_both (all_bound_on closed x.names) (w.names (first.opens ++ G) (surrounds_at f.node (surrounds_on told_closed (surrounds_on before s)))) in
       let joined = carried_trans x.carried step in
       record {
         done = λ c. x.done c ++ one c;

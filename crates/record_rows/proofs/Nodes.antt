@@ -39,9 +39,9 @@ notes_ask a b notes F scope G = carried_idle none_idle (notes_unseen a b notes) 
 row_after : (a b d : Parts) (env : List Entry) (p : Pattern) (seen : List Name) (added : List Bind) (n m : ℕ) → AsksNothing a b → Goes a b → MatchesRow b d env p seen added n m → MatchesRow a d env p seen added n m
 row_after a b d env p seen added n m nothing goes row = record {
   opens = row.opens;
-  typed = λ aloud F scope G names.
+  typed = λ aloud F scope G its names.
       let none = nothing F scope G in
-      let x = row.typed (ap is_aloud goes.telling ∙ aloud) F scope G (surrounds_on none.stays names) in
+      let x = row.typed (ap is_aloud goes.telling ∙ aloud) F scope G its (surrounds_on none.stays names) in
       record {
         row = record { own = x.row.own; type = x.row.type; first = x.row.first; ends = x.row.ends; all = x.row.all; typed = record { carried = carried_trans none x.row.typed.carried; means = x.row.typed.means }; owns = λ all_known. owns_last none x.row.typed.carried (x.row.owns all_known); end = x.row.end };
         done = done_last none x.row.typed.carried x.done;

@@ -7,6 +7,7 @@ use Rattle.typing_conditions.specs.Carrying.{Stays}
 use Rattle.record_steps.specs.Recording.{HasScope}
 use Rattle.typing_conditions.proofs.Judged.{given_right, nodes_left, nodes_right, nodes_both}
 use Rattle.typing_conditions.proofs.Stays.{stays_refl, stays_trans, stays_opened}
+use Rattle.typing_conditions.proofs.Copies.{copied_after}
 
 -- the names in scope that are recorded for a node stay so
 pub scope_on : {F : Frame} {a b : Sight} {G H : Letters} {n : ℕ} {env : List Entry} → Stays F a G b H → HasScope a n env → HasScope b n env
@@ -30,6 +31,7 @@ stays_without {a = a} {b = b} front K more G nodes s = record {
   keeps = s.keeps;
   written = s.written;
   given = λ V ch g. given_right V ch more (front ++ G) g;
+  opens = copied_after more (front ++ G);
   inside = λ i.
       let there = nodes_both front (K ++ G) a.nodes (nodes_left front G a.nodes i.given) (nodes_both K G a.nodes nodes (nodes_right front G a.nodes i.given)) in
       let j = s.inside (record { recorded = i.recorded; written = i.written; given = there }) in

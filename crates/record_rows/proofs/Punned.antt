@@ -1,6 +1,5 @@
 -- A field without a pattern of its own binds the name of its label, whose type is that of the field's node: a letter that stays open.
-use Rattle.std.proofs.Common.{◌≡◌, ◌∙◌, ◌++◌, ℕ, zero, suc, true, List, [], ◌∷◌, take, Option, Some, None, refl, sym, ap, subst, append-nil, false}
-use Rattle.std.specs.Prelude.{slice_get}
+use Rattle.std.proofs.Common.{◌≡◌, ◌∙◌, ◌++◌, ℕ, zero, suc, true, List, [], ◌∷◌, take, Option, Some, None, refl, sym, ap, subst, append-nil}
 use Rattle.token_model.specs.Kinds.{Tok}
 use Rattle.type_model.specs.Types.{Typ}
 use Rattle.signature_model.specs.Declarations.{Name, in_text}
@@ -142,13 +141,13 @@ pub pun_ends : (a d : Parts) (env : List Entry) (k : ℕ) (qs : List Tok) (last 
 pun_ends a d env k qs None names names' seen seen' wanted (noted, same_names, same_seen) = record {
   added = [];
   adds = record { binds = same_names ∙ sym (append-nil names); sees = same_seen ∙ sym (append-nil seen) };
-  typed = record { opens = []; typed = λ aloud F scope G n o s has. record { carried = noted.asks F scope G; done = done_none; names = λ H r. none_bound; scoped = noted.scope aloud } };
+  typed = record { opens = []; typed = λ aloud F scope G n o its s has. record { carried = noted.asks F scope G; done = done_none; names = λ H r. none_bound; scoped = noted.scope aloud } };
 }
 pun_ends a d env k qs (Some t) names names' seen seen' wanted x = record {
   added = record { token = t; node = x.ty; entry = x.binds.entry } ∷ [];
   adds = x.binds.adds;
   typed = record {
     opens = (without_unknown (own k), x.ty.0) ∷ (own k, x.ty.0) ∷ [];
-    typed = λ aloud F scope G n o s has. pun_named a d env k qs t names names' seen seen' wanted x aloud F scope G n o s has x.given;
+    typed = λ aloud F scope G n o its s has. pun_named a d env k qs t names names' seen seen' wanted x aloud F scope G n o s has x.given;
   };
 }

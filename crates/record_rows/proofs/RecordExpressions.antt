@@ -1,6 +1,5 @@
 -- { l = e }, { e with l = e }: the record type of the labels, the fields, that none is absent, and the record.
-use Rattle.std.proofs.Common.{◌≡◌, ◌∙◌, ◌++◌, ℕ, true, List, [], ◌∷◌, Option, Some, None, refl, sym, ap, subst, append-nil}
-use Rattle.std.proofs.Common.{append_assoc}
+use Rattle.std.proofs.Common.{◌≡◌, ◌∙◌, ◌++◌, ℕ, true, List, [], ◌∷◌, Option, Some, None, refl, sym, ap, subst, append-nil, append_assoc}
 use Rattle.tree_model.specs.Trees.{Place}
 use Rattle.signature_model.specs.Declarations as rules
 use Rattle.signature_model.specs.Declarations.{type_of}
@@ -24,7 +23,7 @@ use Rattle.typing_conditions.proofs.Branching.{carried_after, after_hides}
 use Rattle.typing_conditions.proofs.Meaning.{means_on}
 use Rattle.typing_conditions.proofs.Nodes.{same_made}
 use Rattle.typing_conditions.proofs.Recording.{ends_own}
-use Rattle.typing_conditions.proofs.Surrounding.{surrounds_on}
+use Rattle.typing_conditions.proofs.Surrounding.{surrounds_on, sees_on, surrounds_sees}
 use Rattle.typing_conditions.proofs.Hiding.{owns_also, owns_after, owns_row, owns_done}
 use Rattle.typing_steps.specs.States.{is_aloud, sight}
 use Rattle.typing_steps.specs.Typing.{TypesTo, TypesAny, TypesRow, AsksEqual}
@@ -67,7 +66,7 @@ made_asks c n at before loose fs ps alike =
 -- A record that is made, whose type is known: `before` is asked before its labels are looked for, and `loose` after it.
 pub known_made_row : (a b e f d g : Parts) (env : List Entry) (n : ℕ) (at : Place) (fs : List Field) (ps : List Written) (before loose : Asks) (decl : Declaration) (m : ℕ) → AskAlike ps (labels_of fs) → Carries a b env before → Goes a b → TypesRecord b e env ps decl m → Goes b e →
     Carries e f env loose → Goes e f → TypesFields f d env (Some (decl, m)) [] fs → Goes f d → Completes d g (Some (decl, m)) (names_of_labels fs) at → TypesRow a g env (λ c. record_asks c n at (before c) (loose c) fs) n m
-known_made_row a b e f d g env n at fs ps before loose decl m alike first goes typed goes_b more goes_e fields goes_f complete = λ aloud F scope G names.
+known_made_row a b e f d g env n at fs ps before loose decl m alike first goes typed goes_b more goes_e fields goes_f complete = λ aloud F scope G its names.
     let asks = λ (c : Context). record_asks c n at (before c) (loose c) fs in
     let aloud_b : is_aloud b.telling ≡ true = ap is_aloud goes.telling ∙ aloud in
     let aloud_e : is_aloud e.telling ≡ true = ap is_aloud goes_b.telling ∙ aloud_b in
@@ -110,7 +109,7 @@ known_made_row a b e f d g env n at fs ps before loose decl m alike first goes t
 -- One whose type isn't known has a type of its own.
 pub unknown_made_row : (a b e f d g v : Parts) (env : List Entry) (n : ℕ) (at : Place) (fs : List Field) (ps : List Written) (before loose : Asks) (m : ℕ) → AskAlike ps (labels_of fs) → Carries a b env before → Goes a b → TypesNoRecord b e env ps → Goes b e →
     Carries e f env loose → Goes e f → TypesFields f d env None [] fs → Goes f d → Completes d g None (names_of_labels fs) at → TypesAny g v m → TypesRow a v env (λ c. record_asks c n at (before c) (loose c) fs) n m
-unknown_made_row a b e f d g v env n at fs ps before loose m alike first goes typed goes_b more goes_e fields goes_f complete any = λ aloud F scope G names.
+unknown_made_row a b e f d g v env n at fs ps before loose m alike first goes typed goes_b more goes_e fields goes_f complete any = λ aloud F scope G its names.
     let asks = λ (c : Context). record_asks c n at (before c) (loose c) fs in
     let aloud_b : is_aloud b.telling ≡ true = ap is_aloud goes.telling ∙ aloud in
     let aloud_e : is_aloud e.telling ≡ true = ap is_aloud goes_b.telling ∙ aloud_b in
@@ -164,8 +163,8 @@ updated_asks c n e fs ps alike =
 
 -- A record that is updated, whose type is known.
 pub known_updated_row : (a b e f d : Parts) (env : List Entry) (n : ℕ) (whose : Expression) (w : ℕ) (fs : List Field) (ps : List Written) (decl : Declaration) (m : ℕ) → AskAlike ps (labels_of fs) → TypesTo a b env whose.typed (λ ch. ch.type_at whose.node) w → Goes a b →
-    TypesRecord b e env ps decl m → Goes b e → AsksEqual e f whose.at w m → Goes e f → TypesFields f d env (Some (decl, m)) [] fs → TypesRow a d env (λ c. update_asks c n whose fs) n m
-known_updated_row a b e f d env n whose w fs ps decl m alike first goes typed goes_b asked goes_e fields = λ aloud F scope G names.
+    TypesRecord b e env ps decl m → Goes b e → AsksEqual e f env whose.at w m → Goes e f → TypesFields f d env (Some (decl, m)) [] fs → TypesRow a d env (λ c. update_asks c n whose fs) n m
+known_updated_row a b e f d env n whose w fs ps decl m alike first goes typed goes_b asked goes_e fields = λ aloud F scope G its names.
     let asks = λ (c : Context). update_asks c n whose fs in
     let aloud_b : is_aloud b.telling ≡ true = ap is_aloud goes.telling ∙ aloud in
     let aloud_e : is_aloud e.telling ≡ true = ap is_aloud goes_b.telling ∙ aloud_b in
@@ -173,7 +172,7 @@ known_updated_row a b e f d env n whose w fs ps decl m alike first goes typed go
     let names_b = surrounds_on o.carried.stays names in
     let k = typed aloud_b F scope G n 1 names_b in
     let names_e = surrounds_on k.carried.stays names_b in
-    let l = asked aloud_e F scope (k.letters ++ G) (site n 2) (λ ch. ch.type_at whose.node) (used_by n (type_of k.owner)) (means_on k.carried.stays o.means) k.has_type in
+    let l = asked aloud_e F scope (k.letters ++ G) (site n 2) (λ ch. ch.type_at whose.node) (used_by n (type_of k.owner)) its (sees_on scope k.carried.stays names_b.reached (surrounds_sees names_b)) (means_on k.carried.stays o.means) k.has_type in
     let known_f = known_on n (Some (decl, m)) (Some k.owner) l.stays (k.stands, k.has_type, k.use_of) in
     let x = fields (ap is_aloud goes_e.telling ∙ aloud_e) F scope (k.letters ++ G) n (Some k.owner) (surrounds_on l.stays names_e) known_f in
     let there : Means F (sight d) (x.letters ++ (k.letters ++ G)) (used_by n (type_of k.owner)) m = means_on x.carried.stays known_f.1 in
@@ -202,7 +201,7 @@ known_updated_row a b e f d env n whose w fs ps decl m alike first goes typed go
 -- One whose type isn't known has a type of its own.
 pub unknown_updated_row : (a b e d v : Parts) (env : List Entry) (n : ℕ) (whose : Expression) (w : ℕ) (fs : List Field) (ps : List Written) (m : ℕ) → AskAlike ps (labels_of fs) → TypesTo a b env whose.typed (λ ch. ch.type_at whose.node) w → Goes a b →
     TypesNoRecord b e env ps → Goes b e → TypesFields e d env None [] fs → TypesAny d v m → TypesRow a v env (λ c. update_asks c n whose fs) n m
-unknown_updated_row a b e d v env n whose w fs ps m alike first goes typed goes_b fields any = λ aloud F scope G names.
+unknown_updated_row a b e d v env n whose w fs ps m alike first goes typed goes_b fields any = λ aloud F scope G its names.
     let asks = λ (c : Context). update_asks c n whose fs in
     let aloud_b : is_aloud b.telling ≡ true = ap is_aloud goes.telling ∙ aloud in
     let o = first aloud F scope G names in
@@ -229,7 +228,7 @@ unknown_updated_row a b e d v env n whose w fs ps m alike first goes typed goes_
 
 -- a row after a call that asks nothing
 pub row_behind : (a b d : Parts) (env : List Entry) (asks : Asks) (n m : ℕ) → AsksNothing a b → Goes a b → TypesRow b d env asks n m → TypesRow a d env asks n m
-row_behind a b d env asks n m nothing goes row = λ aloud F scope G names.
+row_behind a b d env asks n m nothing goes row = λ aloud F scope G its names.
     let none = nothing F scope G in
-    let x = row (ap is_aloud goes.telling ∙ aloud) F scope G (surrounds_on none.stays names) in
+    let x = row (ap is_aloud goes.telling ∙ aloud) F scope G its (surrounds_on none.stays names) in
     record { own = x.own; type = x.type; first = x.first; ends = x.ends; all = x.all; typed = record { carried = carried_trans none x.typed.carried; means = x.typed.means }; owns = λ all_known. owns_last none x.typed.carried (x.owns all_known); end = x.end }

@@ -1,6 +1,5 @@
 -- { l = p }: the record type of the labels, the fields, and the record.
-use Rattle.std.proofs.Common.{◌≡◌, ◌∙◌, ◌++◌, ℕ, List, [], ◌∷◌, Option, Some, None, refl, sym, ap, subst, append-nil}
-use Rattle.std.proofs.Common.{append_assoc}
+use Rattle.std.proofs.Common.{◌≡◌, ◌∙◌, ◌++◌, ℕ, List, [], ◌∷◌, Option, Some, None, refl, sym, ap, subst, append-nil, append_assoc}
 use Rattle.tree_model.specs.Trees.{Place}
 use Rattle.signature_model.specs.Declarations as rules
 use Rattle.signature_model.specs.Declarations.{Name, type_of}
@@ -62,7 +61,7 @@ pub known_row : (a b d : Parts) (env : List Entry) (n : ℕ) (at : Place) (fs : 
     MatchesFields b d env (Some (decl, m)) fs seen added → MatchesRow a d env (precord n at fs) seen added n m
 known_row a b d env n at fs ps seen added decl m alike typed goes fields = record {
   opens = fields.opens;
-  typed = λ aloud F scope G names.
+  typed = λ aloud F scope G its names.
       let asks = λ (c : Context). (precord n at fs).matched c seen in
       let k = typed aloud F scope G n 0 names in
       let x = fields.typed (ap is_aloud goes.telling ∙ aloud) F scope k.letters G n (Some k.owner) (surrounds_on (stays_closed k.letters k.carried.stays) names) k.inside (k.stands, k.has_type, k.use_of) in
@@ -100,7 +99,7 @@ pub unknown_row : (a b v d : Parts) (env : List Entry) (n : ℕ) (at : Place) (f
     MatchesFields v d env None fs seen added → MatchesRow a d env (precord n at fs) seen added n m
 unknown_row a b v d env n at fs ps seen added m alike typed goes any goes' fields = record {
   opens = fields.opens;
-  typed = λ aloud F scope G names.
+  typed = λ aloud F scope G its names.
       let asks = λ (c : Context). (precord n at fs).matched c seen in
       let k = typed aloud F scope G n 0 names in
       let names_b = surrounds_on k.carried.stays names in

@@ -38,7 +38,7 @@ use Rattle.record_rows.proofs.Values.{given_value, punned_value, written_more}
 -- the value of a field that has none of its own
 pub pun_value : (a d : Parts) (env : List Entry) (k : ℕ) (qs : List Tok) (last : Option Tok) (wanted : Option NodeRef) → PunsValue last a d env k wanted →
     TypesValue a d env (record { node = k; label = record { qualifiers = qs; last = last }; value = None }) (option_map (λ (w : NodeRef). w.0) wanted)
-pun_value a d env k qs None wanted nothing = λ aloud F scope G t names has. record { letters = []; carried = nothing.asks F scope G; done = done_none; scoped = nothing.scope aloud }
+pun_value a d env k qs None wanted nothing = λ aloud F scope G t its names has. record { letters = []; carried = nothing.asks F scope G; done = done_none; scoped = nothing.scope aloud }
 pun_value a d env k qs (Some t) wanted x = punned_value a x.used x.asked d env k qs t x.node wanted x.typed x.goes x.equal x.noted
 
 -- What comes of it.

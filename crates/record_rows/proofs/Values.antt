@@ -1,6 +1,5 @@
 -- The fields of a record expression, each after the labels of those before.
-use Rattle.std.proofs.Common.{◌≡◌, ◌∙◌, ◌++◌, ℕ, true, List, [], ◌∷◌, Option, Some, None, option_map, refl, sym, ap, subst, append-nil, if◌then◌else◌, arith}
-use Rattle.std.proofs.Common.{append_assoc}
+use Rattle.std.proofs.Common.{◌≡◌, ◌∙◌, ◌++◌, ℕ, true, List, [], ◌∷◌, Option, Some, None, option_map, refl, sym, ap, subst, append-nil, if◌then◌else◌, arith, append_assoc}
 use Rattle.token_model.specs.Kinds.{Tok}
 use Rattle.type_model.specs.Types.{Typ}
 use Rattle.signature_model.specs.Declarations as rules
@@ -17,13 +16,13 @@ use Rattle.typing_state.specs.declared.parts.Parts.{Parts}
 use Rattle.typing_state.specs.Goes.{Goes}
 use Rattle.typing_conditions.specs.Sights.{letter, Letters, Sight}
 use Rattle.typing_conditions.specs.Frames.{Frame}
-use Rattle.typing_conditions.specs.Carrying.{Scope, Carried, Asks}
+use Rattle.typing_conditions.specs.Carrying.{Scope, Carried, Asks, at_node}
 use Rattle.typing_conditions.specs.Surroundings.{Surrounds}
 use Rattle.typing_conditions.specs.Hiding.{AreOfRow, AreDone}
-use Rattle.typing_conditions.proofs.Carried.{carried_refl, carried_trans, carried_as, done_as, done_then, done_last}
+use Rattle.typing_conditions.proofs.Carried.{carried_refl, carried_trans, carried_as, done_as, done_then, done_last, carried_row, row_hides}
 use Rattle.typing_conditions.proofs.Meaning.{means_on}
 use Rattle.typing_conditions.proofs.Recording.{told_at}
-use Rattle.typing_conditions.proofs.Surrounding.{surrounds_on, surrounds_sees}
+use Rattle.typing_conditions.proofs.Surrounding.{surrounds_on, surrounds_sees, surrounds_at, own_node, sees_on}
 use Rattle.typing_conditions.proofs.Hiding.{done_none, done_both, owns_row, below_none, below_more}
 use Rattle.typing_conditions.proofs.Keeping.{all_among, carried_kept, kept_done, noted_sure}
 use Rattle.typing_steps.specs.States.{is_aloud, sight}
@@ -40,35 +39,35 @@ use Rattle.record_rows.proofs.Fields.{known_on, is_there, type_in, field_is, has
 
 -- an expression as a value; the field's node is recorded before
 pub given_value : (a b : Parts) (env : List Entry) (k : ℕ) (l : Written) (e : Expression) (ty : Option ℕ) → (is_aloud a.telling ≡ true → HasScope (sight a) k env) → TypesAsIf a b env e ty → TypesValue a b env (record { node = k; label = l; value = Some e }) ty
-given_value a b env k l e None recorded typed aloud F scope G None names has = let x = typed aloud F scope G names in record { letters = []; carried = x; done = done_none; scoped = scope_on x.stays (recorded aloud) }
-given_value a b env k l e (Some m) recorded typed aloud F scope G (Some t) names has = let x = typed aloud F scope G k 2 t names has in record { letters = []; carried = x; done = done_none; scoped = scope_on x.stays (recorded aloud) }
-given_value a b env k l e (Some m) recorded typed aloud F scope G None names has = absurd has
-given_value a b env k l e None recorded typed aloud F scope G (Some t) names has = absurd has
+given_value a b env k l e None recorded typed aloud F scope G None its names has = let x = typed aloud F scope G names in record { letters = []; carried = x; done = done_none; scoped = scope_on x.stays (recorded aloud) }
+given_value a b env k l e (Some m) recorded typed aloud F scope G (Some t) its names has = let x = typed aloud F scope G k 2 t its names has in record { letters = []; carried = x; done = done_none; scoped = scope_on x.stays (recorded aloud) }
+given_value a b env k l e (Some m) recorded typed aloud F scope G None its names has = absurd has
+given_value a b env k l e None recorded typed aloud F scope G (Some t) its names has = absurd has
 
 -- what is asked of the name of a label as a value, with the letter of the field's node k, which isn't noted yet
-pun_asked : (a b d : Parts) (env : List Entry) (k : ℕ) (qs : List Tok) (x : Tok) (m : ℕ) (wanted : Option NodeRef) → TypesOwn a b env (λ c t. value_asks c k 1 (record { qualifiers = []; last = Some x }) t) m → Goes a b → AsksEqualIf b d (place_of x) m wanted →
-    is_aloud a.telling ≡ true → (F : Frame) (scope : Scope) (G : Letters) (t : Option (Choice → Typ)) → Surrounds as_declared F (sight a) G env scope → HasIfThere F (sight a) G t (option_map (λ (w : NodeRef). w.0) wanted) →
+pun_asked : (a b d : Parts) (env : List Entry) (k : ℕ) (qs : List Tok) (x : Tok) (m : ℕ) (wanted : Option NodeRef) → TypesOwn a b env (λ c t. value_asks c k 1 (record { qualifiers = []; last = Some x }) t) m → Goes a b → AsksEqualIf b d env (place_of x) m wanted →
+    is_aloud a.telling ≡ true → (F : Frame) (scope : Scope) (G : Letters) (t : Option (Choice → Typ)) → scope.own k ≡ true → Surrounds as_declared F (sight a) G env scope → HasIfThere F (sight a) G t (option_map (λ (w : NodeRef). w.0) wanted) →
     Carried F scope (λ c. value_asked c (record { node = k; label = record { qualifiers = qs; last = Some x }; value = None }) (chosen_in c t)) (sight a) G (sight d) ((letter k 0, m) ∷ G)
-pun_asked a b d env k qs x m None typed goes asked aloud F scope G None names has =
+pun_asked a b d env k qs x m None typed goes asked aloud F scope G None its names has =
     let y = typed aloud F scope G (letter k 0) (λ t. tt) names in
     subst (λ (z : Parts). Carried F scope (λ c. value_asks c k 1 (record { qualifiers = []; last = Some x }) (contexts.letter c k 0) ++ []) (sight a) G (sight z) ((letter k 0, m) ∷ G)) (sym asked)
     (carried_as (λ c. sym (append-nil (value_asks c k 1 (record { qualifiers = []; last = Some x }) (contexts.letter c k 0)))) y.carried)
-pun_asked a b d env k qs x m (Some w) typed goes asked aloud F scope G (Some t) names has =
+pun_asked a b d env k qs x m (Some w) typed goes asked aloud F scope G (Some t) its names has =
     let y = typed aloud F scope G (letter k 0) (λ t. tt) names in
-    let z = asked (ap is_aloud goes.telling ∙ aloud) F scope ((letter k 0, m) ∷ G) (site k 2) (λ ch. ch.letter k 0) t y.means (means_on y.carried.stays has) in
+    let z = asked (ap is_aloud goes.telling ∙ aloud) F scope ((letter k 0, m) ∷ G) (site k 2) (λ ch. ch.letter k 0) t its (sees_on scope y.carried.stays names.reached (surrounds_sees names)) y.means (means_on y.carried.stays has) in
     carried_trans y.carried z
-pun_asked a b d env k qs x m None typed goes asked aloud F scope G (Some t) names has = absurd has
-pun_asked a b d env k qs x m (Some w) typed goes asked aloud F scope G None names has = absurd has
+pun_asked a b d env k qs x m None typed goes asked aloud F scope G (Some t) its names has = absurd has
+pun_asked a b d env k qs x m (Some w) typed goes asked aloud F scope G None its names has = absurd has
 
 -- its letter belongs to its row alone
 letter_of_row : (k m : ℕ) → AreOfRow k ((letter k 0, m) ∷ [])
 letter_of_row k m = (below_more 0 1 m (omega arith) (omega arith) (below_none k 0)).of_row
 
 -- The name of a label as a value, once the field's node is noted.
-pub punned_value : (a b d e : Parts) (env : List Entry) (k : ℕ) (qs : List Tok) (x : Tok) (m : ℕ) (wanted : Option NodeRef) → TypesOwn a b env (λ c t. value_asks c k 1 (record { qualifiers = []; last = Some x }) t) m → Goes a b → AsksEqualIf b d (place_of x) m wanted → NotesNode d e k env →
+pub punned_value : (a b d e : Parts) (env : List Entry) (k : ℕ) (qs : List Tok) (x : Tok) (m : ℕ) (wanted : Option NodeRef) → TypesOwn a b env (λ c t. value_asks c k 1 (record { qualifiers = []; last = Some x }) t) m → Goes a b → AsksEqualIf b d env (place_of x) m wanted → NotesNode d e k env →
     TypesValue a e env (record { node = k; label = record { qualifiers = qs; last = Some x }; value = None }) (option_map (λ (w : NodeRef). w.0) wanted)
-punned_value a b d e env k qs x m wanted typed goes asked noted aloud F scope G t names has =
-    let p = pun_asked a b d env k qs x m wanted typed goes asked aloud F scope G t names has in
+punned_value a b d e env k qs x m wanted typed goes asked noted aloud F scope G t its names has =
+    let p = pun_asked a b d env k qs x m wanted typed goes asked aloud F scope G t its names has in
     let letters : Letters = (letter k 0, m) ∷ [] in
     let w = noted.asks F scope (letters ++ G) in
     let sure = noted_sure letters p w (noted.hides F scope (letters ++ G)) (noted.notes (p.stays.aloud ∙ aloud) m) (owns_row (letter_of_row k m)) in
@@ -110,21 +109,23 @@ value_step : (b mid told d : Parts) (env : List Entry) (here : RecordHere) (f : 
     ValueStep F scope (λ c. field_value_asks c (is_some found) f labels (field_type c n f.node found f.label)) (sight b) H (sight d)
 value_step b mid told d env here f labels ty goes' goes'' begins noted value loud F scope H n found s known =
     let louder : is_aloud told.telling ≡ true = ap is_aloud goes''.telling ∙ ap is_aloud goes'.telling ∙ loud in
-    let y = field_begun b mid {scope = scope} n f.node here found labels f.label ty loud known begins in
-    let z = noted F scope (y.letters ++ H) in
+    let inner = at_node f.node scope in
+    let y = field_begun b mid {scope = inner} n f.node here found labels f.label ty loud known begins in
+    let z = noted F inner (y.letters ++ H) in
     let begun = carried_trans y.carried z in
-    let w = value louder F scope (y.letters ++ H) (type_in n f.node found f.label) (surrounds_on begun.stays s) (has_on (type_in n f.node found f.label) ty z.stays y.has_type) in
+    let w = value louder F inner (y.letters ++ H) (type_in n f.node found f.label) (own_node f.node) (surrounds_at f.node (surrounds_on begun.stays s)) (has_on (type_in n f.node found f.label) ty z.stays y.has_type) in
     let both = carried_trans begun w.carried in
     let sees = surrounds_sees s in
     let from_start = told_at f.node w.scoped.number both w.scoped.at sees in
-    let step = carried_as {others = λ c. field_value_asks c (is_some found) f labels (field_type c n f.node found f.label)} (λ c. value_is c n found f labels) from_start in
+    let row = carried_row {scope = scope} f.node from_start in
+    let step = carried_as {others = λ c. field_value_asks c (is_some found) f labels (field_type c n f.node found f.label)} (λ c. value_is c n found f labels) row in
     let same = sym (append_assoc w.letters y.letters H) in
     let whole = subst (λ J. Carried F scope (λ c. field_value_asks c (is_some found) f labels (field_type c n f.node found f.label)) (sight b) H (sight d) J) same step in
     record {
       letters = w.letters ++ y.letters;
       carried = whole;
       done = λ all_known. subst (λ zs. AreDone (sight d) whole.hidden (w.letters ++ zs)) (sym (y.none all_known))
-          (done_both (done_grouped same step (done_as (λ c. value_is c n found f labels) from_start (done_told f.node w.scoped.number both w.scoped.at sees (done_last begun w.carried w.done)))) done_none);
+          (done_both (done_grouped same step (done_as (λ c. value_is c n found f labels) row (subst (λ zs. AreDone (sight d) zs w.letters) (sym (row_hides scope f.node from_start)) (done_told f.node w.scoped.number both w.scoped.at sees (done_last begun w.carried w.done))))) done_none);
     }
 
 -- One field more: its beginning, the record of its node, and its value.

@@ -71,7 +71,7 @@ pub record FieldEnded (env : List Entry) (F : Frame) (scope : Scope) (a : Sight)
 -- the same of a call, where faults are reported; it opens the same letters whatever surrounds it
 pub record EndsField (a b : Parts) (env : List Entry) (f : FieldPattern) (seen : List Name) (added : List Bind) (ty : Option ℕ) : Type 0 where
   pub opens : Letters
-  pub typed : is_aloud a.telling ≡ true → (F : Frame) (scope : Scope) (G : Letters) (n : ℕ) (t : Option (Choice → Typ)) → Surrounds as_declared F (sight a) G env scope → HasIfThere F (sight a) G t ty → FieldEnded env F scope (sight a) G (sight b) n f seen t added opens
+  pub typed : is_aloud a.telling ≡ true → (F : Frame) (scope : Scope) (G : Letters) (n : ℕ) (t : Option (Choice → Typ)) → scope.own f.node ≡ true → Surrounds as_declared F (sight a) G env scope → HasIfThere F (sight a) G t ty → FieldEnded env F scope (sight a) G (sight b) n f seen t added opens
 
 -- the same with the names that are added
 pub record FieldAdds (a b : Parts) (env : List Entry) (f : FieldPattern) (names names' : List Bind) (seen seen' : List Name) (ty : Option ℕ) : Type 0 where

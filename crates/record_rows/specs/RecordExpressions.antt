@@ -36,9 +36,9 @@ GivesRecord None a b m = TypesAny a b m
 GivesRecord (Some r) a b m = (m ≡ r.1) × (b ≡ a)
 
 -- a node is of the record's type, where that is known; else all stays
-abbrev pub HasRecord : RecordHere → (a b : Parts) → Place → ℕ → Type 0
-HasRecord None a b at w = b ≡ a
-HasRecord (Some r) a b at w = AsksEqual a b at w r.1
+abbrev pub HasRecord : RecordHere → (a b : Parts) → List Entry → Place → ℕ → Type 0
+HasRecord None a b env at w = b ≡ a
+HasRecord (Some r) a b env at w = AsksEqual a b env at w r.1
 
 -- that a first part is no label is reported
 abbrev pub RefusesPart : (a b : Parts) → Place → Type 0
@@ -80,7 +80,7 @@ pub record FindsUpdated (a d : Parts) (env : List Entry) (here : RecordHere) (wh
   pub goes_first : Goes begun mid
   pub typed : TypesHere here mid found env ps
   pub goes_typed : Goes mid found
-  pub has : HasRecord here found d whole.at node
+  pub has : HasRecord here found d env whole.at node
   pub goes_has : Goes found d
 
 -- The end of a record that is made: that all labels are written, and its type.

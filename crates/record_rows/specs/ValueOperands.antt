@@ -70,7 +70,7 @@ pub record PunsLabel (a d : Parts) (env : List Entry) (k : ℕ) (t : Tok) (wante
   pub node : ℕ
   pub typed : TypesOwn a used env (λ c type. value_asks c k 1 (record { qualifiers = []; last = Some t }) type) node
   pub goes : Goes a used
-  pub equal : AsksEqualIf used asked (place_of t) node wanted
+  pub equal : AsksEqualIf used asked env (place_of t) node wanted
   pub noted : NotesNode asked d k env
 
 -- the same of a label whose token may be missing, where nothing is asked and the node is noted

@@ -35,7 +35,7 @@ pub record ValueTyped (F : Frame) (scope : Scope) (a : Sight) (G : Letters) (b :
 
 -- the same of a call, whatever type the field has
 abbrev pub TypesValue : (a b : Parts) → List Entry → Field → Option ℕ → Type 0
-TypesValue a b env f ty = is_aloud a.telling ≡ true → (F : Frame) (scope : Scope) (G : Letters) (t : Option (Choice → Typ)) → Surrounds as_declared F (sight a) G env scope → HasIfThere F (sight a) G t ty → ValueTyped F scope (sight a) G (sight b) env f t
+TypesValue a b env f ty = is_aloud a.telling ≡ true → (F : Frame) (scope : Scope) (G : Letters) (t : Option (Choice → Typ)) → scope.own f.node ≡ true → Surrounds as_declared F (sight a) G env scope → HasIfThere F (sight a) G t ty → ValueTyped F scope (sight a) G (sight b) env f t
 
 -- fields are typed, after labels that were written before
 pub record FieldsTyped (F : Frame) (scope : Scope) (a : Sight) (G : Letters) (b : Sight) (n : ℕ) (found : Option rules.Declaration) (labels : List Name) (fs : List Field) : Type 0 where

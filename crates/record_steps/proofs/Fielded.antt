@@ -100,7 +100,7 @@ module _ (a b : Parts) {F : Frame} {l : Label} {k : rules.Label} {owner : Typ} {
     -- letters that have their types anyway are dropped
     dropped : (own : Letters) → AreNodes own b.store.nodes → CarriedTo F scope (λ c. []) (sight a) G (sight b) (own ++ G) (used_in_record n field owner k.body) to →
         ((V : Types) (ch : Choice) → Loose b.store.nodes V → Agrees F.owner (sight b) G V ch → AreGiven own V ch) ⊎ (F.known ≡ true → ⊥) → FieldUsed F scope G a b n field owner k.body to
-    dropped own inside typed (inl implied) = record { own = []; inside = tt; typed = record { carried = carried_dropped own implied typed.carried; means = means_dropped own implied typed.means }; none = λ known. refl }
+    dropped own inside typed (inl implied) = record { own = []; inside = tt; typed = record { carried = carried_dropped own implied typed.carried ((only_nodes takes.joining b takes.rest_after).reports ∙ (only_nodes a takes.joining takes.rest).reports); means = means_dropped own implied typed.means }; none = λ known. refl }
     dropped own inside typed (inr other) = record { own = own; inside = inside; typed = typed; none = λ known. absurd (other known) }
 
     joined_so : takes.joining ≡ takes.made → reading takes.made.store.nodes takes.node ≡ Some (Arrow takes.from to) → FieldUsed F scope G a b n field owner k.body to

@@ -23,6 +23,7 @@ use Rattle.typing_conditions.proofs.Carried.{carried_refl, take_none}
 use Rattle.typing_steps.specs.States.{sight}
 use Rattle.typing_steps.proofs.Seeing.{only_nodes}
 use Rattle.typing_conditions.proofs.Hiding.{settles_none, none_doubtful}
+use Rattle.typing_conditions.proofs.Stops.{none_stop}
 
 -- they are one from then on
 pub made_one : {F : Frame} {scope : Scope} {G : Letters} {type : Choice → Typ} {m n : ℕ} {a b : Sight} → IsSound b.nodes → Means F a G type m → Means F a G type n → OnlyNodes a b → Tightens a.nodes b.nodes → Unified a.nodes b.nodes m n → Carried F scope (λ c. []) a G b G
@@ -47,6 +48,7 @@ made_one {m = m} {n = n} {a = a} {b = b} sound p q rest tight one = record {
         hidden_too = (tt, tt);
       });
   first = λ named k V c e h. inl (subst (λ cs. StartsWith [] (judgements c.kept cs)) (sym (take_none k)) (starts_all []));
+  stops = none_stop;
 }
 
 -- `join` of two such nodes

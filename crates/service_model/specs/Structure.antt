@@ -10,7 +10,7 @@ use Rattle.grammar_model.specs.Ocaml.{grammar, program_text, row_name}
 use Rattle.query_model.specs.Outlines.{Kind, value, type_name, exception_name, module_name, module_type, Member, Members, member, no_members, also, members_of, outline}
 use Rattle.query_model.specs.Faults.{Fault, Listed, TyperFault, warning, source_of, by_typer, told, page, has_more}
 use Rattle.typing_model.specs.Typable.{IsTypable}
-use Rattle.fault_model.specs.Refused.{standing, IsOfValues, AreRefused}
+use Rattle.fault_model.specs.Refused.{IsOfValues, AreRefused}
 use Rattle.service_model.specs.Replies as said
 use Rattle.service_model.specs.WellTyped.{is_well_typed}
 
@@ -65,9 +65,9 @@ AreWarnings (f ∷ fs) = (source_of f.kind ≡ warning) × AreWarnings fs
 abbrev pub faults_said : List ℕ → List Fault → said.Said
 faults_said text fs = said.faults (map (shown_fault text) (page fs)) (has_more fs)
 
--- What is known of the typer's faults of a text: a text that can be typed has none but warnings, and those of a text of `let` and `;;` are the demands that aren't kept, in order, each at its place, of its kind and, where it names no types, with its message.
+-- What is known of the typer's faults of a text: a text that can be typed has none but warnings, and those of a text of `let` and `;;` are the demands that aren't kept, in order, each at its place, of its kind and with its message.
 abbrev pub TyperFaults : List ℕ → List TyperFault → Type 0
-TyperFaults text typed = (IsTypable text → AreWarnings typed) × ((t : IsOfValues text) → ∥ AreRefused (items_in t.tokens) (standing typed) ∥₁)
+TyperFaults text typed = (IsTypable text → AreWarnings typed) × ((t : IsOfValues text) → ∥ AreRefused (items_in t.tokens) typed ∥₁)
 
 -- the page of the parser's faults together with those of the typer, in the order of their demands; which these are stays open, but for what `TyperFaults` says
 abbrev pub FaultsAre : List ℕ → List Fault → said.Said → Type 0

@@ -12,7 +12,7 @@ use Rattle.plain_model.proofs.Within.{seen_within}
 use Rattle.query_model.specs.Faults.{TyperFault, by_typer}
 use Rattle.query_model.specs.TypedNodes.{Typed, typed_at}
 use Rattle.typing_model.specs.Typable.{AreTypable}
-use Rattle.fault_model.specs.Refused.{standing, AreOfValues, AreRefused}
+use Rattle.fault_model.specs.Refused.{AreOfValues, AreRefused}
 use Rattle.service_model.specs.Replies as said
 use Rattle.service_model.specs.Structure.{faults_in, faults_said, items_in, ErrorsAre, ErrorsBy, FaultsAre, TyperFaults}
 use Rattle.service_model.specs.Answers.{EnclosingBy, EnclosingIs, ShownTypes, TypesAre, shown_place, start_and_end, typed_among, typed_round, types_or_none}
@@ -97,7 +97,7 @@ faults_parsed : (text : List ℕ) (p : Parsed) (typed : List TyperFault) (s : sa
 faults_parsed text p typed s h known page = (h.tokens, h.lexed, (typed, known, page ∙ ap (λ fs. faults_said text (fs ++ map by_typer typed)) h.faults))
 
 -- and what is said of them
-pub faults_found : (text : List ℕ) (p : Parsed) (items : List Tree) (found : List typer.Fault) (s : said.Said) → IsParsedAs text p → items ≡ trees_of p.tree → (AreTypable items → api.are_warnings found ≡ true) → (AreOfValues items → ∥ AreRefused items (standing (map typer_fault_of found)) ∥₁) →
+pub faults_found : (text : List ℕ) (p : Parsed) (items : List Tree) (found : List typer.Fault) (s : said.Said) → IsParsedAs text p → items ≡ trees_of p.tree → (AreTypable items → api.are_warnings found ≡ true) → (AreOfValues items → ∥ AreRefused items (map typer_fault_of found) ∥₁) →
     s ≡ faults_said text (map fault_of p.faults.items ++ map by_typer (map typer_fault_of found)) → AreFaultsOf text s
 faults_found text p items found s h are silent refused page = faults_parsed text p (map typer_fault_of found) s h (typer_found text p items found h are silent refused) page
 

@@ -47,12 +47,12 @@ same_run : (G : Table) (ts : List Tok) (p : Parser) → frames.run_on G ts p ≡
 same_run G [] p = refl
 same_run G (t ∷ ts) p = same_run G ts (step G p t).parser
 
-same_mark : (m : Mark) → retaken.kept_of m ≡ kept_of m
+same_mark : (m : Mark) → frames.kept_of m ≡ kept_of m
 same_mark sound = refl
 same_mark (held s ts) = refl
 same_mark marked = refl
 
-same_item : (o : Option Item) → retaken.kept_in o ≡ kept_in o
+same_item : (o : Option Item) → frames.kept_in o ≡ kept_in o
 same_item None = refl
 same_item (Some i) = same_mark i.mark
 

@@ -15,8 +15,8 @@ use Rattle.settled_types.proofs.Patterns.{GoesPattern, names_all}
 
 -- what an expression asks holds of what is left
 pub record GoesTyped (w : Constructors) (e : Expression) : Type 0 where
-  pub types : (c : Pair w) → Goes (e.typed (left c)) (e.typed (right c))
-  pub negates : (c : Pair w) → Goes (e.negated (left c)) (e.negated (right c))
+  pub types : (c : Pair w) → Goes w (e.typed (left c)) (e.typed (right c))
+  pub negates : (c : Pair w) → Goes w (e.negated (left c)) (e.negated (right c))
 
 -- and it is non-expansive in both of two contexts or in neither
 pub record GoesExpression (w : Constructors) (e : Expression) : Type 0 where
@@ -30,7 +30,7 @@ pub record GoesBinding (w : Constructors) (b : Binding) : Type 0 where
   pub annotation : IfThere (GoesType w) b.annotation
   pub body : GoesTyped w b.body
 
-pub apart_goes : {w : Constructors} (c : Pair w) (ps : List Pattern) → Each (GoesPattern w) ps → Goes (matched_apart (left c) ps) (matched_apart (right c) ps)
+pub apart_goes : {w : Constructors} (c : Pair w) (ps : List Pattern) → Each (GoesPattern w) ps → Goes w (matched_apart (left c) ps) (matched_apart (right c) ps)
 apart_goes c [] no_one = nothing_goes
 apart_goes c (p ∷ ps) (one_and s each) = behind (s.matches c []) (apart_goes c ps each)
 
@@ -45,28 +45,28 @@ right_left {w} c b = by b.annotation
     by None = refl
     by (Some t) = refl
 
-annotation_goes : {w : Constructors} (c : Pair w) (t : Option TypeExpression) → IfThere (GoesType w) t → Goes (read_annotation (left c) t) (read_annotation (right c) t)
+annotation_goes : {w : Constructors} (c : Pair w) (t : Option TypeExpression) → IfThere (GoesType w) t → Goes w (read_annotation (left c) t) (read_annotation (right c) t)
 annotation_goes c None absent = nothing_goes
 annotation_goes c (Some t) (there s) = s.reads c
 
-annotated_goes : {w : Constructors} (c : Pair w) (b : Binding) (t : Option TypeExpression) → Goes (has_annotation (left c) b t) (has_annotation (right c) b t)
+annotated_goes : {w : Constructors} (c : Pair w) (b : Binding) (t : Option TypeExpression) → Goes w (has_annotation (left c) b t) (has_annotation (right c) b t)
 annotated_goes c b None = nothing_goes
 annotated_goes {w} c b (Some t) = equal_one w refl refl
 
-right_side_goes : {w : Constructors} (b : Binding) → GoesBinding w b → (c : Pair w) → Goes (right_side (left c) b) (right_side (right c) b)
+right_side_goes : {w : Constructors} (b : Binding) → GoesBinding w b → (c : Pair w) → Goes w (right_side (left c) b) (right_side (right c) b)
 right_side_goes b s c =
     behind (behind (behind (apart_goes c b.parameters s.parameters) (annotation_goes c b.annotation s.annotation)) (s.body.types (more c (all_names b.parameters) (names_all b.parameters s.parameters))))
     (annotated_goes c b b.annotation)
 
-has_goes : {w : Constructors} (c : Pair w) (b : Binding) → Goes (pattern_has (left c) b) (pattern_has (right c) b)
+has_goes : {w : Constructors} (c : Pair w) (b : Binding) → Goes w (pattern_has (left c) b) (pattern_has (right c) b)
 has_goes {w} c b = equal_one w refl (arrows_left c b.parameters (right_type (left c) b) (right_type (right c) b) (right_left c b))
 
-in_turn_goes : {w : Constructors} (c : Pair w) (seen : List Name) (bs : List Binding) → Each (GoesBinding w) bs → Goes (bound_in_turn (left c) seen bs) (bound_in_turn (right c) seen bs)
+in_turn_goes : {w : Constructors} (c : Pair w) (seen : List Name) (bs : List Binding) → Each (GoesBinding w) bs → Goes w (bound_in_turn (left c) seen bs) (bound_in_turn (right c) seen bs)
 in_turn_goes c seen [] no_one = nothing_goes
 in_turn_goes c seen (b ∷ bs) (one_and s each) =
     at_treated (behind (behind (behind (right_side_goes b s c) (s.pattern.matches c seen)) (has_goes c b)) (in_turn_goes c (seen ++ b.pattern.mentions) bs each))
 
-patterns_go : {w : Constructors} (c : Pair w) (seen : List Name) (bs : List Binding) → Each (GoesBinding w) bs → Goes (patterns_first (left c) seen bs) (patterns_first (right c) seen bs)
+patterns_go : {w : Constructors} (c : Pair w) (seen : List Name) (bs : List Binding) → Each (GoesBinding w) bs → Goes w (patterns_first (left c) seen bs) (patterns_first (right c) seen bs)
 patterns_go c seen [] no_one = nothing_goes
 patterns_go c seen (b ∷ bs) (one_and s each) = at_treated (behind (s.pattern.matches c seen) (patterns_go c (seen ++ b.pattern.mentions) bs each))
 
@@ -74,11 +74,11 @@ pub group_names : {w : Constructors} (bs : List Binding) → Each (GoesBinding w
 group_names [] no_one = no_one
 group_names (b ∷ bs) (one_and s each) = each_append s.pattern.names (group_names bs each)
 
-right_sides_go : {w : Constructors} (c : Pair w) (group : List Bound) → Each (RestName w) group → (bs : List Binding) → Each (GoesBinding w) bs → Goes (right_sides (left c) (with_names (left c) group) bs) (right_sides (right c) (with_names (right c) group) bs)
+right_sides_go : {w : Constructors} (c : Pair w) (group : List Bound) → Each (RestName w) group → (bs : List Binding) → Each (GoesBinding w) bs → Goes w (right_sides (left c) (with_names (left c) group) bs) (right_sides (right c) (with_names (right c) group) bs)
 right_sides_go c group names [] no_one = nothing_goes
 right_sides_go c group names (b ∷ bs) (one_and s each) = behind (behind (right_side_goes b s (more c group names)) (has_goes c b)) (right_sides_go c group names bs each)
 
-pub bindings_go : {w : Constructors} (c : Pair w) (is_rec : Bool) (bs : List Binding) → Each (GoesBinding w) bs → Goes (bindings_ask (left c) is_rec bs) (bindings_ask (right c) is_rec bs)
+pub bindings_go : {w : Constructors} (c : Pair w) (is_rec : Bool) (bs : List Binding) → Each (GoesBinding w) bs → Goes w (bindings_ask (left c) is_rec bs) (bindings_ask (right c) is_rec bs)
 bindings_go c true bs each = behind (patterns_go c [] bs each) (right_sides_go c (names_of_group bs) (group_names bs each) bs each)
 bindings_go c false bs each = in_turn_goes c [] bs each
 

@@ -13,7 +13,7 @@ use Rattle.typing_model.specs.Demands.{value_word, label_word, site, equal, test
 use Rattle.typing_model.specs.Contexts.{Context, type_at, letter, ask}
 use Rattle.typing_model.specs.Parts.{Written, Form, a_constructor, a_path, a_float, a_false, a_field, no_expression, other, Expression, Pattern, TypeExpression, Binding, Case, Field, no_expression_at, place_of, last_of}
 use Rattle.typing_model.specs.Names.{names_of, Built, referent_of, then_by, scheme_in, used_at}
-use Rattle.typing_model.specs.Records.{ask_once, name_in, ask_complete}
+use Rattle.typing_model.specs.Records.{name_in, ask_complete}
 use Rattle.typing_model.specs.BuiltIns.{exn_type}
 use Rattle.typing_model.specs.Patterns.{built_by, ask_all, behind_first, kept_record, all_names}
 use Rattle.typing_model.specs.Expressions.{expression, typed_all, is_of, has_type, value_asks, name_expression, constructor_expression, path_expression, constant_expression, hole_expression, parenthesised, begun, first_type, each_has, list_expression, cons_expression, tuple_expression, applied_from, behind_constructor, behind_unbound, behind_argument, constructor_applied, application_asks, application, operator_applied, name_of, infix_expression, prefix_expression, under_sign, minus_asks, minus_expression, label_found, field_asks, field_expression, ask_mutable, set_expression, pun_asks, field_value_asks, is_some, fields_ask, labels_of, names_of_labels, is_record, record_asks, update_asks, first_field, before_labels, loose_value, record_expression, update_expression, assert_asks, assert_expression, if_expression, sequence_expression, while_expression, loop_names, for_expression, guard_asks, case_asks, later_cases, cases_ask, first_body, match_expression, try_expression, function_expression, fun_expression, let_expression}
@@ -23,7 +23,7 @@ use Rattle.demand_laws.proofs.Bindings.{IsMutableAlike, IsFormAlike}
 use Rattle.settled_types.specs.Made.{Constructors, is_made_of, referent_made_of}
 use Rattle.settled_types.proofs.Erasing.{erase_types, erase_made}
 use Rattle.settled_types.proofs.Found.{ErasedScheme, ErasedFound, two_values, one_thing, IsMade, value_found}
-use Rattle.settled_types.proofs.Goes.{rest, Goes, nothing_goes, one, behind, at_treated, at_equal, at_test, at_instance, same_one, equal_one, along, at_bound, at_value, int_left, float_left, unit_left, bool_left, exn_left, list_left, Pair, left, right, two, RestName, more}
+use Rattle.settled_types.proofs.Goes.{rest, Goes, nothing_goes, once_goes, complete_goes, behind, at_treated, at_equal, at_test, at_instance, same_one, equal_one, along, at_bound, at_value, int_left, float_left, unit_left, bool_left, exn_left, list_left, Pair, left, right, two, RestName, more}
 use Rattle.settled_types.proofs.Uses.{IsDeclared, IsLabelled, label_labelled, kept_declared, used_left, type_made, BothThere, neither, both, fields_there, built_one, label_one, kept_record_one}
 use Rattle.settled_types.proofs.Types.{GoesType}
 use Rattle.settled_types.proofs.Patterns.{GoesPattern, names_all, constant_goes, constructor_alone_goes, applied_goes, ask_record_goes}
@@ -41,10 +41,10 @@ pub no_expression_goes : (w : Constructors) (n : ℕ) (q : Place) → GoesTyped 
 no_expression_goes w n q = record { types = λ c. nothing_goes; negates = λ c. nothing_goes }
 
 -- an expression of the usual kind
-usual : (w : Constructors) (n : ℕ) (q : Place) (f : Form) (typed : Context → List Condition) (is_value : Context → Bool) → ((c : Pair w) → Goes (typed (left c)) (typed (right c))) → GoesTyped w (expression n q f typed is_value)
+usual : (w : Constructors) (n : ℕ) (q : Place) (f : Form) (typed : Context → List Condition) (is_value : Context → Bool) → ((c : Pair w) → Goes w (typed (left c)) (typed (right c))) → GoesTyped w (expression n q f typed is_value)
 usual w n q f typed is_value h = record { types = h; negates = h }
 
-all_typed : {w : Constructors} (c : Pair w) (es : List Expression) → Each (GoesTyped w) es → Goes (typed_all (left c) es) (typed_all (right c) es)
+all_typed : {w : Constructors} (c : Pair w) (es : List Expression) → Each (GoesTyped w) es → Goes w (typed_all (left c) es) (typed_all (right c) es)
 all_typed c [] no_one = nothing_goes
 all_typed c (e ∷ es) (one_and s each) = behind (s.types c) (all_typed c es each)
 
@@ -59,7 +59,7 @@ scheme_of b f = if b then then_by (referent_of f) scheme_in else None
 own_scheme : (w : Constructors) (s : Scheme) → is_made_of w.all s.body ≡ true → ErasedScheme w.all s s
 own_scheme w s h = record { body = sym (erase_made w.all s.body h); bound = λ v e. e }
 
-of_referent : (w : Constructors) (t u : Typ) → u ≡ rest w t → (r : Referent) → referent_made_of w.all r ≡ true → Goes (use_behind t (scheme_in r)) (use_behind u (scheme_in r))
+of_referent : (w : Constructors) (t u : Typ) → u ≡ rest w t → (r : Referent) → referent_made_of w.all r ≡ true → Goes w (use_behind t (scheme_in r)) (use_behind u (scheme_in r))
 of_referent w t u e (a_value s) h = at_instance w (own_scheme w s h) e nothing_goes
 of_referent w t u e (entries.a_constructor d k) h = nothing_goes
 of_referent w t u e (an_exception o) h = nothing_goes
@@ -68,20 +68,20 @@ of_referent w t u e (a_type d) h = nothing_goes
 of_referent w t u e (a_module s) h = nothing_goes
 of_referent w t u e (a_module_type x) h = nothing_goes
 
-made_use : (w : Constructors) (t u : Typ) → u ≡ rest w t → (f : Found) → IsMade w.all f → Goes (use_behind t (scheme_of true f)) (use_behind u (scheme_of true f))
+made_use : (w : Constructors) (t u : Typ) → u ≡ rest w t → (f : Found) → IsMade w.all f → Goes w (use_behind t (scheme_of true f)) (use_behind u (scheme_of true f))
 made_use w t u e (an_entry x) h = of_referent w t u e x.stands_for h
 made_use w t u e a_hole h = nothing_goes
 made_use w t u e nothing h = nothing_goes
 
-use_goes : (w : Constructors) (t u : Typ) → u ≡ rest w t → (b : Bool) {f g : Found} → ErasedFound w.all f g → Goes (use_behind t (scheme_of b f)) (use_behind u (scheme_of b g))
+use_goes : (w : Constructors) (t u : Typ) → u ≡ rest w t → (b : Bool) {f g : Found} → ErasedFound w.all f g → Goes w (use_behind t (scheme_of b f)) (use_behind u (scheme_of b g))
 use_goes w t u e false h = nothing_goes
 use_goes w t u e true (two_values h) = at_instance w h e nothing_goes
 use_goes w t u e true (one_thing {f = f} h) = made_use w t u e f h
 
-pub value_goes : {w : Constructors} (c : Pair w) (n j : ℕ) (p : Written) (t u : Typ) → u ≡ rest w t → Goes (value_asks (left c) n j p t) (value_asks (right c) n j p u)
+pub value_goes : {w : Constructors} (c : Pair w) (n j : ℕ) (p : Written) (t u : Typ) → u ≡ rest w t → Goes w (value_asks (left c) n j p t) (value_asks (right c) n j p u)
 value_goes {w} c n j p t u is = by p.last refl
   where
-    by : (o : Option Tok) → p.last ≡ o → Goes (value_asks (left c) n j p t) (value_asks (right c) n j p u)
+    by : (o : Option Tok) → p.last ≡ o → Goes w (value_asks (left c) n j p t) (value_asks (right c) n j p u)
     by None e = rw (e, value_asks) nothing_goes
     by (Some x) e = rw (e, value_asks) (at_value c n j value_word p x (use_goes w t u is (c.kept (site n j)) (value_found w.all c.names (names_of p.qualifiers) x.name)))
 
@@ -117,7 +117,7 @@ ebegin_goes w n q None absent = usual w n q _ _ _ (λ c. same_one w refl (unit_l
 ebegin_goes w n q (Some e) (there s) = usual w n q _ _ _ (λ c. behind (s.types c) (same_one w refl refl))
 
 -- expressions that have one type
-each_has_goes : {w : Constructors} (c : Pair w) (n j : ℕ) (t u : Typ) → u ≡ rest w t → (es : List Expression) → Goes (ask_all n j (each_has (left c) t es)) (ask_all n j (each_has (right c) u es))
+each_has_goes : {w : Constructors} (c : Pair w) (n j : ℕ) (t u : Typ) → u ≡ rest w t → (es : List Expression) → Goes w (ask_all n j (each_has (left c) t es)) (ask_all n j (each_has (right c) u es))
 each_has_goes c n j t u e [] = nothing_goes
 each_has_goes {w} c n j t u e (x ∷ es) = at_equal w refl e (each_has_goes c n (j + 1) t u e es)
 
@@ -138,24 +138,24 @@ pub etuple_goes : (w : Constructors) (n : ℕ) (q : Place) (es : List Expression
 etuple_goes w n q es each = usual w n q _ _ _ (λ c. behind (all_typed c es each) (same_one w refl (ap Tuple (sym (erase_types w.all (λ (e : Expression). type_at (left c) e.node) es)))))
 
 -- a head and its arguments
-applied_from_goes : {w : Constructors} (c : Pair w) (n j i : ℕ) (q : Place) (h g : Typ) → g ≡ rest w h → (es : List Expression) → Each (GoesTyped w) es → Goes (applied_from (left c) n j i q h es) (applied_from (right c) n j i q g es)
+applied_from_goes : {w : Constructors} (c : Pair w) (n j i : ℕ) (q : Place) (h g : Typ) → g ≡ rest w h → (es : List Expression) → Each (GoesTyped w) es → Goes w (applied_from (left c) n j i q h es) (applied_from (right c) n j i q g es)
 applied_from_goes {w} c n j i q h g is [] no_one = same_one w refl is
 applied_from_goes {w} c n j i q h g is (e ∷ es) (one_and s each) =
     at_equal w is refl (behind (behind (s.types c) (equal_one w refl refl)) (applied_from_goes c n (j + 2) (i + 2) q (letter (left c) n (i + 1)) (letter (right c) n (i + 1)) refl es each))
 
-unbound_goes : {w : Constructors} (c : Pair w) (n : ℕ) (head : Expression) (es : List Expression) → Each (GoesTyped w) es → Goes (behind_unbound (left c) n head es) (behind_unbound (right c) n head es)
+unbound_goes : {w : Constructors} (c : Pair w) (n : ℕ) (head : Expression) (es : List Expression) → Each (GoesTyped w) es → Goes w (behind_unbound (left c) n head es) (behind_unbound (right c) n head es)
 unbound_goes {w} c n head [] no_one = same_one w refl refl
 unbound_goes c n head (e ∷ es) each = all_typed c (e ∷ es) each
 
-behind_constructor_goes : {w : Constructors} (c : Pair w) (n : ℕ) (head : Expression) (es : List Expression) → Each (GoesTyped w) es → Goes (behind_constructor (left c) n head es) (behind_constructor (right c) n head es)
+behind_constructor_goes : {w : Constructors} (c : Pair w) (n : ℕ) (head : Expression) (es : List Expression) → Each (GoesTyped w) es → Goes w (behind_constructor (left c) n head es) (behind_constructor (right c) n head es)
 behind_constructor_goes {w} c n head [] no_one = same_one w refl refl
 behind_constructor_goes c n head (e ∷ es) each = applied_from_goes c n 3 0 head.at (type_at (left c) head.node) (type_at (right c) head.node) refl (e ∷ es) each
 
-argument_goes : {w : Constructors} (c : Pair w) (n : ℕ) (head : Expression) (es : List Expression) (o : Option Built) → Each (GoesTyped w) es → Goes (behind_argument (left c) n head es o) (behind_argument (right c) n head es o)
+argument_goes : {w : Constructors} (c : Pair w) (n : ℕ) (head : Expression) (es : List Expression) (o : Option Built) → Each (GoesTyped w) es → Goes w (behind_argument (left c) n head es o) (behind_argument (right c) n head es o)
 argument_goes c n head es None each = unbound_goes c n head es each
 argument_goes c n head es (Some b) each = behind_constructor_goes c n head es each
 
-constructor_applied_goes : {w : Constructors} (c : Pair w) (n : ℕ) (p : Written) (head : Expression) (es : List Expression) → GoesTyped w head → Each (GoesTyped w) es → Goes (constructor_applied (left c) n p head es) (constructor_applied (right c) n p head es)
+constructor_applied_goes : {w : Constructors} (c : Pair w) (n : ℕ) (p : Written) (head : Expression) (es : List Expression) → GoesTyped w head → Each (GoesTyped w) es → Goes w (constructor_applied (left c) n p head es) (constructor_applied (right c) n p head es)
 constructor_applied_goes c n p head [] h no_one = h.types c
 constructor_applied_goes c n p head (e ∷ es) h (one_and s each) =
     behind (applied_goes c n p head.node (head.node ∷ []) (e.typed (left c)) (e.typed (right c)) 2 e.at (type_at (left c) e.node) (type_at (right c) e.node) refl (s.types c))
@@ -166,10 +166,10 @@ constructor_applied_goes c n p head (e ∷ es) h (one_and s each) =
     then_alike (Some t) f = f t
 
 head_goes : {w : Constructors} (c : Pair w) (n : ℕ) (head : Expression) (es : List Expression) → GoesTyped w head → Each (GoesTyped w) es →
-    Goes (head.typed (left c) ++ applied_from (left c) n 0 0 head.at (type_at (left c) head.node) es) (head.typed (right c) ++ applied_from (right c) n 0 0 head.at (type_at (right c) head.node) es)
+    Goes w (head.typed (left c) ++ applied_from (left c) n 0 0 head.at (type_at (left c) head.node) es) (head.typed (right c) ++ applied_from (right c) n 0 0 head.at (type_at (right c) head.node) es)
 head_goes c n head es h each = behind (h.types c) (applied_from_goes c n 0 0 head.at (type_at (left c) head.node) (type_at (right c) head.node) refl es each)
 
-application_goes : {w : Constructors} (c : Pair w) (n : ℕ) (head : Expression) (es : List Expression) (f : Form) → GoesTyped w head → Each (GoesTyped w) es → Goes (application_asks (left c) n head es f) (application_asks (right c) n head es f)
+application_goes : {w : Constructors} (c : Pair w) (n : ℕ) (head : Expression) (es : List Expression) (f : Form) → GoesTyped w head → Each (GoesTyped w) es → Goes w (application_asks (left c) n head es f) (application_asks (right c) n head es f)
 application_goes c n head es (a_constructor p) h each = constructor_applied_goes c n p head es h each
 application_goes c n head es (a_path p) h each = head_goes c n head es h each
 application_goes c n head es a_float h each = head_goes c n head es h each
@@ -181,7 +181,7 @@ application_goes c n head es other h each = head_goes c n head es h each
 pub eapp_goes : (w : Constructors) (n : ℕ) (q : Place) (head : Expression) (es : List Expression) → GoesTyped w head → Each (GoesTyped w) es → GoesTyped w (application n q head es)
 eapp_goes w n q head es s each = usual w n q _ _ _ (λ c. application_goes c n head es head.form s each)
 
-operator_goes : {w : Constructors} (c : Pair w) (n : ℕ) (t : Option Tok) (x : Name) (es : List Expression) → Each (GoesTyped w) es → Goes (operator_applied (left c) n t x es) (operator_applied (right c) n t x es)
+operator_goes : {w : Constructors} (c : Pair w) (n : ℕ) (t : Option Tok) (x : Name) (es : List Expression) → Each (GoesTyped w) es → Goes w (operator_applied (left c) n t x es) (operator_applied (right c) n t x es)
 operator_goes c n None x es each = all_typed c es each
 operator_goes c n (Some t) x es each =
     behind (value_goes c n 0 (record { qualifiers = []; last = Some (record t { name = x }) }) (letter (left c) n 0) (letter (right c) n 0) refl) (applied_from_goes c n 1 1 (place_of t) (letter (left c) n 0) (letter (right c) n 0) refl es each)
@@ -199,10 +199,10 @@ under_sign_goes w t e s = by (same_name (name_of t) (codes "-"))
     by true = record { types = s.negates; negates = s.negates }
     by false = s
 
-signed_goes : {w : Constructors} (c : Pair w) (n : ℕ) (t : Option Tok) (e : Expression) → GoesTyped w e → Goes (operator_applied (left c) n t (codes "~" ++ name_of t) (under_sign t e ∷ [])) (operator_applied (right c) n t (codes "~" ++ name_of t) (under_sign t e ∷ []))
+signed_goes : {w : Constructors} (c : Pair w) (n : ℕ) (t : Option Tok) (e : Expression) → GoesTyped w e → Goes w (operator_applied (left c) n t (codes "~" ++ name_of t) (under_sign t e ∷ [])) (operator_applied (right c) n t (codes "~" ++ name_of t) (under_sign t e ∷ []))
 signed_goes {w} c n t e s = operator_goes c n t (codes "~" ++ name_of t) (under_sign t e ∷ []) (one_and (under_sign_goes w t e s) no_one)
 
-minus_goes : {w : Constructors} (c : Pair w) (n : ℕ) (t : Option Tok) (e : Expression) (f : Form) → GoesTyped w e → Goes (minus_asks (left c) n t e f) (minus_asks (right c) n t e f)
+minus_goes : {w : Constructors} (c : Pair w) (n : ℕ) (t : Option Tok) (e : Expression) (f : Form) → GoesTyped w e → Goes w (minus_asks (left c) n t e f) (minus_asks (right c) n t e f)
 minus_goes {w} c n t e a_float s = behind (s.negates c) (same_one w refl (float_left w))
 minus_goes c n t e (a_constructor p) s = signed_goes c n t e s
 minus_goes c n t e (a_path p) s = signed_goes c n t e s
@@ -218,7 +218,7 @@ eneg_goes w n q t e s = usual w n q _ _ _ (λ c. minus_goes c n t e e.form s)
 abbrev field_behind : Context → ℕ → Expression → Option (Declaration × Label) → List Condition
 field_behind c n e o = elim o [ None ↦ [] | Some (d, l) ↦ has_type c n 1 e (used_at c n (type_of d)) ++ is_of c n (used_at c n l.body) ]
 
-field_left : {w : Constructors} (c : Pair w) (n : ℕ) (e : Expression) (o : Option (Declaration × Label)) → IsLabelled w o → Goes (field_behind (left c) n e o) (field_behind (right c) n e o)
+field_left : {w : Constructors} (c : Pair w) (n : ℕ) (e : Expression) (o : Option (Declaration × Label)) → IsLabelled w o → Goes w (field_behind (left c) n e o) (field_behind (right c) n e o)
 field_left c n e None h = nothing_goes
 field_left {w} c n e (Some (d, l)) h = behind (equal_one w refl (used_left c n (type_of d) (type_made w d h.0))) (same_one w refl (used_left c n l.body h.1))
 
@@ -226,10 +226,10 @@ if_labelled : (w : Constructors) (b : Bool) (o : Option (Declaration × Label)) 
 if_labelled w true o h = h
 if_labelled w false o h = tt
 
-field_goes : {w : Constructors} (c : Pair w) (n : ℕ) (e : Expression) (p : Written) → GoesTyped w e → Goes (field_asks (left c) n e p) (field_asks (right c) n e p)
+field_goes : {w : Constructors} (c : Pair w) (n : ℕ) (e : Expression) (p : Written) → GoesTyped w e → Goes w (field_asks (left c) n e p) (field_asks (right c) n e p)
 field_goes {w} c n e p s = by p.last refl
   where
-    by : (o : Option Tok) → p.last ≡ o → Goes (field_asks (left c) n e p) (field_asks (right c) n e p)
+    by : (o : Option Tok) → p.last ≡ o → Goes w (field_asks (left c) n e p) (field_asks (right c) n e p)
     by None g = rw (g, field_asks) (s.types c)
     by (Some t) g = rw (g, field_asks) (behind (behind (s.types c) (at_bound c n 0 label_kind label_word p t refl nothing_goes))
         (along (field_behind (left c) n e) (field_behind (right c) n e) (ap (λ o. if c.kept (site n 0) then o else None) (label_one c p))
@@ -241,15 +241,15 @@ efield_goes w n q e p s = usual w n q _ _ _ (λ c. field_goes c n e p s)
 abbrev mutable_behind : ℕ → Written → Option Label → List Condition
 mutable_behind n p o = elim o [ None ↦ [] | Some l ↦ elim p.last [ None ↦ [] | Some t ↦ ask n 0 (place_of t) (test (not_mutable t.name) l.is_mutable) ] ]
 
-mutable_one : (n : ℕ) (p : Written) {o r : Option Label} → Both IsMutableAlike o r → Goes (mutable_behind n p o) (mutable_behind n p r)
-mutable_one n p nones = nothing_goes
-mutable_one n p (somes {x = l} {y = m} h) = by p.last
+mutable_one : {w : Constructors} (n : ℕ) (p : Written) {o r : Option Label} → Both IsMutableAlike o r → Goes w (mutable_behind n p o) (mutable_behind n p r)
+mutable_one {w} n p nones = nothing_goes
+mutable_one {w} n p (somes {x = l} {y = m} h) = by p.last
   where
-    by : (t : Option Tok) → Goes (elim t [ None ↦ [] | Some t ↦ ask n 0 (place_of t) (test (not_mutable t.name) l.is_mutable) ]) (elim t [ None ↦ [] | Some t ↦ ask n 0 (place_of t) (test (not_mutable t.name) m.is_mutable) ])
+    by : (t : Option Tok) → Goes w (elim t [ None ↦ [] | Some t ↦ ask n 0 (place_of t) (test (not_mutable t.name) l.is_mutable) ]) (elim t [ None ↦ [] | Some t ↦ ask n 0 (place_of t) (test (not_mutable t.name) m.is_mutable) ])
     by None = nothing_goes
     by (Some t) = at_test h.one nothing_goes
 
-mutable_goes : {w : Constructors} (c : Pair w) (n : ℕ) (f : Form) → IsFormAlike f → Goes (ask_mutable (left c) n f) (ask_mutable (right c) n f)
+mutable_goes : {w : Constructors} (c : Pair w) (n : ℕ) (f : Form) → IsFormAlike f → Goes w (ask_mutable (left c) n f) (ask_mutable (right c) n f)
 mutable_goes c n (a_field p label) h = mutable_one n p (h (two c))
 mutable_goes c n (a_constructor p) h = nothing_goes
 mutable_goes c n (a_path p) h = nothing_goes
@@ -265,14 +265,14 @@ eset_goes w n q e f s z = usual w n q _ _ _ (λ c. behind (behind (behind (behin
 abbrev pun_has : Context → Field → Tok → Option Typ → List Condition
 pun_has c f x o = elim o [ None ↦ [] | Some t ↦ ask f.node 2 (place_of x) (equal (letter c f.node 0) t) ]
 
-pun_goes : {w : Constructors} (c : Pair w) (f : Field) {t u : Option Typ} → BothThere w t u → Goes (pun_asks (left c) f t) (pun_asks (right c) f u)
+pun_goes : {w : Constructors} (c : Pair w) (f : Field) {t u : Option Typ} → BothThere w t u → Goes w (pun_asks (left c) f t) (pun_asks (right c) f u)
 pun_goes {w} c f {t} {u} h = by f.label.last refl
   where
-    has : (x : Tok) {t u : Option Typ} → BothThere w t u → Goes (pun_has (left c) f x t) (pun_has (right c) f x u)
+    has : (x : Tok) {t u : Option Typ} → BothThere w t u → Goes w (pun_has (left c) f x t) (pun_has (right c) f x u)
     has x neither = nothing_goes
     has x (both e) = equal_one w refl e
 
-    by : (o : Option Tok) → f.label.last ≡ o → Goes (pun_asks (left c) f t) (pun_asks (right c) f u)
+    by : (o : Option Tok) → f.label.last ≡ o → Goes w (pun_asks (left c) f t) (pun_asks (right c) f u)
     by None e = rw (e, pun_asks) nothing_goes
     by (Some x) e = rw (e, pun_asks) (behind (value_goes c f.node 1 (record { qualifiers = []; last = Some x }) (letter (left c) f.node 0) (letter (right c) f.node 0) refl) (has x h))
 
@@ -281,45 +281,45 @@ abbrev value_has : Context → Field → Expression → Option Typ → List Cond
 value_has c f e o = elim o [ None ↦ [] | Some t ↦ has_type c f.node 2 e t ]
 
 field_value_goes : {w : Constructors} (c : Pair w) (is_found : Bool) (f : Field) (names : List Name) {t u : Option Typ} → BothThere w t u → GoesField w f →
-    Goes (field_value_asks (left c) is_found f names t) (field_value_asks (right c) is_found f names u)
+    Goes w (field_value_asks (left c) is_found f names t) (field_value_asks (right c) is_found f names u)
 field_value_goes {w} c is_found f names {t} {u} h s = by f.value refl s.value
   where
-    has : (e : Expression) {t u : Option Typ} → BothThere w t u → Goes (value_has (left c) f e t) (value_has (right c) f e u)
+    has : (e : Expression) {t u : Option Typ} → BothThere w t u → Goes w (value_has (left c) f e t) (value_has (right c) f e u)
     has e neither = nothing_goes
     has e (both g) = equal_one w refl g
 
-    by : (o : Option Expression) → f.value ≡ o → IfThere (GoesTyped w) o → Goes (field_value_asks (left c) is_found f names t) (field_value_asks (right c) is_found f names u)
-    by None e absent = rw (e, field_value_asks) (at_treated (behind (one (if is_found then ask_once f.node 0 names f.label else [])) (pun_goes c f h)))
-    by (Some v) e (there z) = rw (e, field_value_asks) (at_treated (behind (one (if is_found then ask_once f.node 0 names f.label else [])) (behind (z.types c) (has v h))))
+    by : (o : Option Expression) → f.value ≡ o → IfThere (GoesTyped w) o → Goes w (field_value_asks (left c) is_found f names t) (field_value_asks (right c) is_found f names u)
+    by None e absent = rw (e, field_value_asks) (at_treated (behind (once_goes is_found f.node 0 names f.label) (pun_goes c f h)))
+    by (Some v) e (there z) = rw (e, field_value_asks) (at_treated (behind (once_goes is_found f.node 0 names f.label) (behind (z.types c) (has v h))))
 
 fields_go : {w : Constructors} (c : Pair w) (n : ℕ) (found : Option Declaration) → IsDeclared w found → (fs : List Field) (names : List Name) → Each (GoesField w) fs →
-    Goes (fields_ask (left c) n found fs names) (fields_ask (right c) n found fs names)
+    Goes w (fields_ask (left c) n found fs names) (fields_ask (right c) n found fs names)
 fields_go c n found made [] names no_one = nothing_goes
 fields_go c n found made (f ∷ fs) names (one_and s each) =
     behind (field_value_goes c (is_some found) f names (fields_there c n f.node found f.label made) s) (fields_go c n found made fs (names ++ name_in f.label) each)
 
-record_left : {w : Constructors} (c : Pair w) (n : ℕ) (o : Option Declaration) → IsDeclared w o → Goes (is_record (left c) n o) (is_record (right c) n o)
+record_left : {w : Constructors} (c : Pair w) (n : ℕ) (o : Option Declaration) → IsDeclared w o → Goes w (is_record (left c) n o) (is_record (right c) n o)
 record_left c n None made = nothing_goes
 record_left {w} c n (Some d) made = same_one w refl (used_left c n (type_of d) (type_made w d made))
 
-record_goes : {w : Constructors} (c : Pair w) (n : ℕ) (q : Place) (fs : List Field) (xs ys us vs : List Condition) → Each (GoesField w) fs → Goes xs ys → Goes us vs → Goes (record_asks (left c) n q xs us fs) (record_asks (right c) n q ys vs fs)
+record_goes : {w : Constructors} (c : Pair w) (n : ℕ) (q : Place) (fs : List Field) (xs ys us vs : List Condition) → Each (GoesField w) fs → Goes w xs ys → Goes w us vs → Goes w (record_asks (left c) n q xs us fs) (record_asks (right c) n q ys vs fs)
 record_goes c n q fs xs ys us vs each h g =
     let ls : List Written = labels_of fs in
     let found : kept_record (left c) n 1 ls ≡ kept_record (right c) n 1 ls = kept_record_one c n 1 ls in
     let made = kept_declared c n 1 ls in
     behind (behind (behind (behind (behind h (ask_record_goes c n 1 ls)) g)
     (along (λ o. fields_ask (left c) n o fs []) (λ o. fields_ask (right c) n o fs []) found (fields_go c n (kept_record (left c) n 1 ls) made fs [] each)))
-    (along (λ o. ask_complete n 3 q o (names_of_labels fs)) (λ o. ask_complete n 3 q o (names_of_labels fs)) found (one (ask_complete n 3 q (kept_record (left c) n 1 ls) (names_of_labels fs)))))
+    (along (λ o. ask_complete n 3 q o (names_of_labels fs)) (λ o. ask_complete n 3 q o (names_of_labels fs)) found (complete_goes n 3 q (kept_record (left c) n 1 ls) (names_of_labels fs))))
     (along (is_record (left c) n) (is_record (right c) n) found (record_left c n (kept_record (left c) n 1 ls) made))
 
 abbrev has_record : Context → ℕ → Expression → Option Declaration → List Condition
 has_record c n e o = elim o [ None ↦ [] | Some d ↦ has_type c n 2 e (used_at c n (type_of d)) ]
 
-has_left : {w : Constructors} (c : Pair w) (n : ℕ) (e : Expression) (o : Option Declaration) → IsDeclared w o → Goes (has_record (left c) n e o) (has_record (right c) n e o)
+has_left : {w : Constructors} (c : Pair w) (n : ℕ) (e : Expression) (o : Option Declaration) → IsDeclared w o → Goes w (has_record (left c) n e o) (has_record (right c) n e o)
 has_left c n e None made = nothing_goes
 has_left {w} c n e (Some d) made = equal_one w refl (used_left c n (type_of d) (type_made w d made))
 
-update_goes : {w : Constructors} (c : Pair w) (n : ℕ) (e : Expression) (fs : List Field) → GoesTyped w e → Each (GoesField w) fs → Goes (update_asks (left c) n e fs) (update_asks (right c) n e fs)
+update_goes : {w : Constructors} (c : Pair w) (n : ℕ) (e : Expression) (fs : List Field) → GoesTyped w e → Each (GoesField w) fs → Goes w (update_asks (left c) n e fs) (update_asks (right c) n e fs)
 update_goes c n e fs s each =
     let ls : List Written = labels_of fs in
     let found : kept_record (left c) n 1 ls ≡ kept_record (right c) n 1 ls = kept_record_one c n 1 ls in
@@ -339,7 +339,7 @@ first_goes w (a_field p l) n value s = no_one
 first_goes w no_expression n value s = no_one
 first_goes w other n value s = no_one
 
-before_goes : {w : Constructors} (c : Pair w) (n : ℕ) (e : Expression) (f : Form) → GoesTyped w e → Goes (before_labels (left c) n e f) (before_labels (right c) n e f)
+before_goes : {w : Constructors} (c : Pair w) (n : ℕ) (e : Expression) (f : Form) → GoesTyped w e → Goes w (before_labels (left c) n e f) (before_labels (right c) n e f)
 before_goes c n e (a_path p) s = nothing_goes
 before_goes c n e no_expression s = s.types c
 before_goes c n e (a_constructor p) s = at_test refl (s.types c)
@@ -355,7 +355,7 @@ list_typed : {w : Constructors} (o : Option Expression) → IfThere (GoesTyped w
 list_typed None absent = no_one
 list_typed (Some e) (there s) = one_and s no_one
 
-loose_goes : {w : Constructors} (c : Pair w) (f : Form) (value : Option Expression) → IfThere (GoesTyped w) value → Goes (loose_value (left c) f value) (loose_value (right c) f value)
+loose_goes : {w : Constructors} (c : Pair w) (f : Form) (value : Option Expression) → IfThere (GoesTyped w) value → Goes w (loose_value (left c) f value) (loose_value (right c) f value)
 loose_goes c (a_path p) value s = nothing_goes
 loose_goes c (a_constructor p) value s = all_typed c (as_list value) (list_typed value s)
 loose_goes c a_float value s = all_typed c (as_list value) (list_typed value s)
@@ -374,10 +374,10 @@ erecord_goes w n q e value fs s v each =
 pub eupdate_goes : (w : Constructors) (n : ℕ) (q : Place) (e : Expression) (fs : List Field) → GoesTyped w e → Each (GoesField w) fs → GoesTyped w (update_expression n q e fs)
 eupdate_goes w n q e fs s each = usual w n q _ _ _ (λ c. update_goes c n e fs s each)
 
-tested_goes : {w : Constructors} (c : Pair w) (n : ℕ) (e : Expression) → GoesTyped w e → Goes (assert_asks (left c) n e other) (assert_asks (right c) n e other)
+tested_goes : {w : Constructors} (c : Pair w) (n : ℕ) (e : Expression) → GoesTyped w e → Goes w (assert_asks (left c) n e other) (assert_asks (right c) n e other)
 tested_goes {w} c n e s = behind (behind (s.types c) (equal_one w refl (bool_left w))) (same_one w refl (unit_left w))
 
-assert_goes : {w : Constructors} (c : Pair w) (n : ℕ) (e : Expression) (f : Form) → GoesTyped w e → Goes (assert_asks (left c) n e f) (assert_asks (right c) n e f)
+assert_goes : {w : Constructors} (c : Pair w) (n : ℕ) (e : Expression) (f : Form) → GoesTyped w e → Goes w (assert_asks (left c) n e f) (assert_asks (right c) n e f)
 assert_goes c n e a_false s = s.types c
 assert_goes c n e (a_constructor p) s = tested_goes c n e s
 assert_goes c n e (a_path p) s = tested_goes c n e s
@@ -394,7 +394,7 @@ eif_goes w n q e f None s z absent = usual w n q _ _ _ (λ c. behind (behind (be
 eif_goes w n q e f (Some g) s z (there x) =
     usual w n q _ _ _ (λ c. behind (behind (behind (behind (behind (s.types c) (equal_one w refl (bool_left w))) (z.types c)) (x.types c)) (equal_one w refl refl)) (same_one w refl refl))
 
-last_goes : {w : Constructors} (c : Pair w) (n : ℕ) (o : Option Expression) → Goes (elim o [ None ↦ [] | Some e ↦ is_of (left c) n (type_at (left c) e.node) ]) (elim o [ None ↦ [] | Some e ↦ is_of (right c) n (type_at (right c) e.node) ])
+last_goes : {w : Constructors} (c : Pair w) (n : ℕ) (o : Option Expression) → Goes w (elim o [ None ↦ [] | Some e ↦ is_of (left c) n (type_at (left c) e.node) ]) (elim o [ None ↦ [] | Some e ↦ is_of (right c) n (type_at (right c) e.node) ])
 last_goes c n None = nothing_goes
 last_goes {w} c n (Some e) = same_one w refl refl
 
@@ -413,7 +413,7 @@ efor_goes w n q x e f g s z y = usual w n q _ _ _ (λ c.
     behind (behind (behind (behind (behind (s.types c) (equal_one w refl (int_left w))) (z.types c)) (equal_one w refl (int_left w))) (y.types (more c (loop_names x) (loop_rest w x)))) (same_one w refl (unit_left w)))
 
 -- cases
-guard_goes : {w : Constructors} (n j : ℕ) (g : Option Expression) → IfThere (GoesTyped w) g → (c : Pair w) → Goes (guard_asks (left c) n j g) (guard_asks (right c) n j g)
+guard_goes : {w : Constructors} (n j : ℕ) (g : Option Expression) → IfThere (GoesTyped w) g → (c : Pair w) → Goes w (guard_asks (left c) n j g) (guard_asks (right c) n j g)
 guard_goes n j None absent c = nothing_goes
 guard_goes {w} n j (Some e) (there s) c = behind (s.types c) (equal_one w refl (bool_left w))
 
@@ -421,19 +421,19 @@ guard_goes {w} n j (Some e) (there s) c = behind (s.types c) (equal_one w refl (
 abbrev body_has : Context → ℕ → ℕ → Expression → Option Typ → List Condition
 body_has c n j e o = elim o [ None ↦ [] | Some t ↦ has_type c n (j + 2) e t ]
 
-body_goes : {w : Constructors} (c : Pair w) (n j : ℕ) (e : Expression) {t u : Option Typ} → BothThere w t u → Goes (body_has (left c) n j e t) (body_has (right c) n j e u)
+body_goes : {w : Constructors} (c : Pair w) (n j : ℕ) (e : Expression) {t u : Option Typ} → BothThere w t u → Goes w (body_has (left c) n j e t) (body_has (right c) n j e u)
 body_goes c n j e neither = nothing_goes
 body_goes {w} c n j e (both h) = equal_one w refl h
 
-case_goes : {w : Constructors} (c : Pair w) (n j : ℕ) (subject wanted : Typ) → wanted ≡ rest w subject → (result end : Option Typ) (x : Case) → BothThere w result end → GoesCase w x → Goes (case_asks (left c) n j subject result x) (case_asks (right c) n j wanted end x)
+case_goes : {w : Constructors} (c : Pair w) (n j : ℕ) (subject wanted : Typ) → wanted ≡ rest w subject → (result end : Option Typ) (x : Case) → BothThere w result end → GoesCase w x → Goes w (case_asks (left c) n j subject result x) (case_asks (right c) n j wanted end x)
 case_goes {w} c n j subject wanted is result end x h s =
     at_treated (behind (behind (behind (behind (s.pattern.matches c []) (equal_one w refl is)) (guard_goes n (j + 1) x.guard s.guard (more c x.pattern.names s.pattern.names))) (s.body.types (more c x.pattern.names s.pattern.names))) (body_goes c n j x.body h))
 
-later_goes : {w : Constructors} (c : Pair w) (n j : ℕ) (subject wanted result end : Typ) → wanted ≡ rest w subject → end ≡ rest w result → (xs : List Case) → Each (GoesCase w) xs → Goes (later_cases (left c) n j subject result xs) (later_cases (right c) n j wanted end xs)
+later_goes : {w : Constructors} (c : Pair w) (n j : ℕ) (subject wanted result end : Typ) → wanted ≡ rest w subject → end ≡ rest w result → (xs : List Case) → Each (GoesCase w) xs → Goes w (later_cases (left c) n j subject result xs) (later_cases (right c) n j wanted end xs)
 later_goes c n j subject wanted result end e f [] no_one = nothing_goes
 later_goes c n j subject wanted result end e f (x ∷ xs) (one_and s each) = behind (case_goes c n j subject wanted e (Some result) (Some end) x (both f) s) (later_goes c n (j + 3) subject wanted result end e f xs each)
 
-cases_go : {w : Constructors} (c : Pair w) (n : ℕ) (subject wanted : Typ) → wanted ≡ rest w subject → (xs : List Case) → Each (GoesCase w) xs → Goes (cases_ask (left c) n subject xs) (cases_ask (right c) n wanted xs)
+cases_go : {w : Constructors} (c : Pair w) (n : ℕ) (subject wanted : Typ) → wanted ≡ rest w subject → (xs : List Case) → Each (GoesCase w) xs → Goes w (cases_ask (left c) n subject xs) (cases_ask (right c) n wanted xs)
 cases_go c n subject wanted e [] no_one = nothing_goes
 cases_go c n subject wanted e (x ∷ xs) (one_and s each) =
     behind (case_goes c n 0 subject wanted e None None x neither s) (later_goes c n 3 subject wanted (type_at (left c) x.body.node) (type_at (right c) x.body.node) e refl xs each)

@@ -1,5 +1,5 @@
 -- Conditions that hold of what is left of types where others hold of the types, and contexts in which what is left of the types is chosen.
-use Rattle.std.proofs.Common.{◌≡◌, ◌∙◌, ℕ, ◌<◌, Bool, true, false, not, ◌||◌, List, [], ◌∷◌, ◌++◌, refl, sym, ap, subst, inl, inr, arith}
+use Rattle.std.proofs.Common.{◌≡◌, ◌∙◌, ℕ, ◌<◌, Bool, true, false, not, ◌||◌, List, [], ◌∷◌, ◌++◌, Option, Some, None, if◌then◌else◌, refl, sym, ap, subst, inl, inr, arith}
 use Rattle.token_model.specs.Kinds.{Tok}
 use Rattle.tree_model.specs.Trees.{Place}
 use Rattle.type_model.specs.Types.{Path, Typ, Nil, Cons, occurs}
@@ -7,22 +7,23 @@ use Rattle.type_model.specs.Schemes.{Scheme}
 use Rattle.type_model.specs.Substitutions.{apply}
 use Rattle.type_model.specs.Limits.{IsInScope}
 use Rattle.type_model.proofs.Applying.{or_left, or_right, or_cases}
-use Rattle.signature_model.specs.Declarations.{Name}
+use Rattle.signature_model.specs.Declarations.{Name, Declaration}
 use Rattle.signature_model.specs.Changes.{change}
 use Rattle.signature_model.specs.Matching.{filling, IsKnown}
 use Rattle.signature_model.specs.Entries.{Environment, Kind, value_kind, free_in}
 use Rattle.signature_model.specs.Lookups.{same_kind, Found}
-use Rattle.typing_model.specs.Demands.{Site, equal, test, Complaint, Word, Condition, same, instance, made, known, demand, treated, IsUse, AllHold}
-use Rattle.typing_model.specs.Contexts.{Choice, Context, Bound, in_item, entries_with, monomorphic, occurs_in, generalised_in}
-use Rattle.typing_model.specs.Names.{is_found, ask_bound, names_of}
-use Rattle.typing_model.specs.Parts.{Written}
+use Rattle.typing_model.specs.Demands.{Site, equal, test, agrees, matches, closes, twice, Complaint, Word, Demand, Condition, same, instance, made, known, demand, treated, IsUse, Holds, AllHold, sites_of}
+use Rattle.typing_model.specs.Records.{ask_once, ask_complete, absent_label, labels_in, is_among}
+use Rattle.typing_model.specs.Contexts.{ask, Choice, Context, Bound, in_item, entries_with, monomorphic, occurs_in, generalised_in}
+use Rattle.typing_model.specs.Names.{is_found, ask_bound, names_of, then_by}
+use Rattle.typing_model.specs.Parts.{Written, place_of}
 use Rattle.typing_model.specs.BuiltIns.{built_in_origin, built_in_type, int_type, unit_type, bool_type, float_type, char_type, string_type, exn_type, list_type}
 use Rattle.typing_laws.proofs.Bools.{no_yes}
 use Rattle.typing_laws.proofs.Steady.{Each, no_one, one_and}
 use Rattle.demand_laws.proofs.Alike.{NamesAlike, as_one, one_entry, two_values, Two}
 use Rattle.demand_laws.proofs.Alike as alike
 use Rattle.settled_types.specs.Made.{Constructors}
-use Rattle.settled_types.proofs.Erasing.{erase, erase_con, erase_apply, erase_filled, occurs_left, scope_left, known_left}
+use Rattle.settled_types.proofs.Erasing.{Stays, left_stays, erase, erase_con, erase_apply, erase_filled, occurs_left, scope_left, known_left}
 use Rattle.settled_types.proofs.Found.{ErasedScheme, ErasedNames, as_made, next, next_exception, ErasedFound, one_thing, value_found, free_left}
 use Rattle.settled_types.proofs.Found as found
 use Rattle.settled_types.proofs.One.{lookup_one}
@@ -31,49 +32,78 @@ use Rattle.settled_types.proofs.One.{lookup_one}
 abbrev pub rest : Constructors → Typ → Typ
 rest w t = erase w.all t
 
--- conditions hold where others do
-pub record Goes (xs ys : List Condition) : Type 0 where
-  pub each : (kept : Site → Bool) → AllHold kept xs → AllHold kept ys
+-- in a demand that two types are one no other constructor stands
+abbrev pub DemandStays : Constructors → Demand → Type 0
+DemandStays w (equal t u) = Stays w.all t × Stays w.all u
+DemandStays w (test c b) = Unit {0}
+DemandStays w (agrees c n s t) = Unit {0}
+DemandStays w (matches A t) = Unit {0}
+DemandStays w (closes env s) = Unit {0}
 
-pub nothing_goes : Goes [] []
-nothing_goes = record { each = λ kept h. tt }
+-- the same of a condition, if it is a demand
+abbrev pub ConditionStays : Constructors → Condition → Type 0
+ConditionStays w (same t u) = Unit {0}
+ConditionStays w (instance s t) = Unit {0}
+ConditionStays w (made n t) = Unit {0}
+ConditionStays w (known t) = Unit {0}
+ConditionStays w (demand s at d) = DemandStays w d
+ConditionStays w (treated n env) = Unit {0}
 
-pub one : (cs : List Condition) → Goes cs cs
-one cs = record { each = λ kept h. h }
+-- A condition holds where another one does, and is a demand of the same site if that is one, in which no other constructor stands.
+pub record GoesOne (w : Constructors) (c d : Condition) : Type 0 where
+  pub holds : (kept : Site → Bool) → Holds kept c → Holds kept d
+  pub sites : sites_of (d ∷ []) ≡ sites_of (c ∷ [])
+  pub stays : ConditionStays w d
 
-all_front : (kept : Site → Bool) (xs ys : List Condition) → AllHold kept (xs ++ ys) → AllHold kept xs
-all_front kept [] ys h = tt
-all_front kept (x ∷ xs) ys h = (h.0, all_front kept xs ys h.1)
+-- so it is with conditions, one by one
+pub data Goes (w : Constructors) : List Condition → List Condition → Type 0 where
+  nothing_goes : Goes w [] []
+  goes_more : {c d : Condition} {cs ds : List Condition} → GoesOne w c d → Goes w cs ds → Goes w (c ∷ cs) (d ∷ ds)
 
-all_back : (kept : Site → Bool) (xs ys : List Condition) → AllHold kept (xs ++ ys) → AllHold kept ys
-all_back kept [] ys h = h
-all_back kept (x ∷ xs) ys h = all_back kept xs ys h.1
+-- they hold where the others do
+pub goes_each : {w : Constructors} {xs ys : List Condition} → Goes w xs ys → (kept : Site → Bool) → AllHold kept xs → AllHold kept ys
+goes_each nothing_goes kept h = h
+goes_each (goes_more o g) kept h = (o.holds kept h.0, goes_each g kept h.1)
 
-all_both : (kept : Site → Bool) (xs ys : List Condition) → AllHold kept xs → AllHold kept ys → AllHold kept (xs ++ ys)
-all_both kept [] ys h g = g
-all_both kept (x ∷ xs) ys h g = (h.0, all_both kept xs ys h.1 g)
-
-pub behind : {xs ys us vs : List Condition} → Goes xs ys → Goes us vs → Goes (xs ++ us) (ys ++ vs)
-behind {xs} {ys} {us} {vs} h g = record { each = λ kept a. all_both kept ys vs (h.each kept (all_front kept xs us a)) (g.each kept (all_back kept xs us a)) }
+pub behind : {w : Constructors} {xs ys us vs : List Condition} → Goes w xs ys → Goes w us vs → Goes w (xs ++ us) (ys ++ vs)
+behind nothing_goes g = g
+behind (goes_more o h) g = goes_more o (behind h g)
 
 -- one condition in front
-pub at_treated : {i j : ℕ} {e f : Environment} {cs ds : List Condition} → Goes cs ds → Goes (treated i e ∷ cs) (treated j f ∷ ds)
-at_treated h = record { each = λ kept a. (tt, h.each kept a.1) }
+pub at_treated : {w : Constructors} {i j : ℕ} {e f : Environment} {cs ds : List Condition} → Goes w cs ds → Goes w (treated i e ∷ cs) (treated j f ∷ ds)
+at_treated h = goes_more (record { holds = λ kept a. tt; sites = refl; stays = tt }) h
 
-pub at_known : (w : Constructors) {t u : Typ} {cs ds : List Condition} → u ≡ rest w t → Goes cs ds → Goes (known t ∷ cs) (known u ∷ ds)
-at_known w {t} e h = record { each = λ kept a. (subst IsKnown (sym e) (known_left w.all t a.0), h.each kept a.1) }
+pub at_known : (w : Constructors) {t u : Typ} {cs ds : List Condition} → u ≡ rest w t → Goes w cs ds → Goes w (known t ∷ cs) (known u ∷ ds)
+at_known w {t} e h = goes_more (record { holds = λ kept a. subst IsKnown (sym e) (known_left w.all t a); sites = refl; stays = tt }) h
 
-pub at_made : (w : Constructors) {n : ℕ} {t u : Typ} {cs ds : List Condition} → u ≡ rest w t → Goes cs ds → Goes (made n t ∷ cs) (made n u ∷ ds)
-at_made w {n} {t} e h = record { each = λ kept a. (subst (IsInScope n) (sym e) (scope_left w.all n t a.0), h.each kept a.1) }
+pub at_made : (w : Constructors) {n : ℕ} {t u : Typ} {cs ds : List Condition} → u ≡ rest w t → Goes w cs ds → Goes w (made n t ∷ cs) (made n u ∷ ds)
+at_made w {n} {t} e h = goes_more (record { holds = λ kept a. subst (IsInScope n) (sym e) (scope_left w.all n t a); sites = refl; stays = tt }) h
 
-pub at_same : (w : Constructors) {t u x y : Typ} {cs ds : List Condition} → x ≡ rest w t → y ≡ rest w u → Goes cs ds → Goes (same t u ∷ cs) (same x y ∷ ds)
-at_same w e f h = record { each = λ kept a. (e ∙ ap (rest w) a.0 ∙ sym f, h.each kept a.1) }
+pub at_same : (w : Constructors) {t u x y : Typ} {cs ds : List Condition} → x ≡ rest w t → y ≡ rest w u → Goes w cs ds → Goes w (same t u ∷ cs) (same x y ∷ ds)
+at_same w e f h = goes_more (record { holds = λ kept a. e ∙ ap (rest w) a ∙ sym f; sites = refl; stays = tt }) h
 
-pub at_equal : (w : Constructors) {s : Site} {p q : Place} {t u x y : Typ} {cs ds : List Condition} → x ≡ rest w t → y ≡ rest w u → Goes cs ds → Goes (demand s p (equal t u) ∷ cs) (demand s q (equal x y) ∷ ds)
-at_equal w e f h = record { each = λ kept a. ((λ k. e ∙ ap (rest w) (a.0 k) ∙ sym f), h.each kept a.1) }
+pub at_equal : (w : Constructors) {s : Site} {p q : Place} {t u x y : Typ} {cs ds : List Condition} → x ≡ rest w t → y ≡ rest w u → Goes w cs ds → Goes w (demand s p (equal t u) ∷ cs) (demand s q (equal x y) ∷ ds)
+at_equal w {t = t} {u = u} e f h = goes_more (record { holds = λ kept a k. e ∙ ap (rest w) (a k) ∙ sym f; sites = refl; stays = (subst (Stays w.all) (sym e) (left_stays w.all t), subst (Stays w.all) (sym f) (left_stays w.all u)) }) h
 
-pub at_test : {s : Site} {p q : Place} {c d : Complaint} {a b : Bool} {cs ds : List Condition} → a ≡ b → Goes cs ds → Goes (demand s p (test c a) ∷ cs) (demand s q (test d b) ∷ ds)
-at_test e h = record { each = λ kept a. ((λ k. sym e ∙ a.0 k), h.each kept a.1) }
+pub at_test : {w : Constructors} {s : Site} {p q : Place} {c d : Complaint} {a b : Bool} {cs ds : List Condition} → a ≡ b → Goes w cs ds → Goes w (demand s p (test c a) ∷ cs) (demand s q (test d b) ∷ ds)
+at_test e h = goes_more (record { holds = λ kept a k. sym e ∙ a k; sites = refl; stays = tt }) h
+
+-- that a label isn't given before
+once_by : {w : Constructors} (b : Bool) (o : Option Tok) (n k : ℕ) (seen : List Name) → Goes w (if b then elim o [ None ↦ [] | Some t ↦ ask n k (place_of t) (test (twice t.name) (not (is_among t.name seen))) ] else []) (if b then elim o [ None ↦ [] | Some t ↦ ask n k (place_of t) (test (twice t.name) (not (is_among t.name seen))) ] else [])
+once_by true None n k seen = nothing_goes
+once_by true (Some t) n k seen = at_test refl nothing_goes
+once_by false o n k seen = nothing_goes
+
+pub once_goes : {w : Constructors} (b : Bool) (n k : ℕ) (seen : List Name) (p : Written) → Goes w (if b then ask_once n k seen p else []) (if b then ask_once n k seen p else [])
+once_goes b n k seen p = once_by b p.last n k seen
+
+-- and that none is absent
+pub complete_goes : {w : Constructors} (n k : ℕ) (q : Place) (found : Option Declaration) (seen : List Name) → Goes w (ask_complete n k q found seen) (ask_complete n k q found seen)
+complete_goes {w} n k q found seen = by (then_by found (λ d. absent_label (labels_in d.shape) seen)) refl
+  where
+    by : (o : Option Name) → then_by found (λ d. absent_label (labels_in d.shape) seen) ≡ o → Goes w (ask_complete n k q found seen) (ask_complete n k q found seen)
+    by None e = rw (e, ask_complete) nothing_goes
+    by (Some x) e = rw (e, ask_complete) (at_test refl nothing_goes)
 
 -- an instance of a scheme is one of the other's, of what is left of the type
 pub use_left : (w : Constructors) (s z : Scheme) (t : Typ) → ErasedScheme w.all s z → IsUse s t → IsUse z (rest w t)
@@ -88,19 +118,19 @@ use_left w s z t h u =
       );
     }
 
-pub at_instance : (w : Constructors) {s z : Scheme} {t u : Typ} {cs ds : List Condition} → ErasedScheme w.all s z → u ≡ rest w t → Goes cs ds → Goes (instance s t ∷ cs) (instance z u ∷ ds)
-at_instance w {s} {z} {t} h e g = record { each = λ kept a. (subst (IsUse z) (sym e) (use_left w s z t h a.0), g.each kept a.1) }
+pub at_instance : (w : Constructors) {s z : Scheme} {t u : Typ} {cs ds : List Condition} → ErasedScheme w.all s z → u ≡ rest w t → Goes w cs ds → Goes w (instance s t ∷ cs) (instance z u ∷ ds)
+at_instance w {s} {z} {t} h e g = goes_more (record { holds = λ kept a. subst (IsUse z) (sym e) (use_left w s z t h a); sites = refl; stays = tt }) g
 
 -- a single one
-pub same_one : (w : Constructors) {t u x y : Typ} → x ≡ rest w t → y ≡ rest w u → Goes (same t u ∷ []) (same x y ∷ [])
+pub same_one : (w : Constructors) {t u x y : Typ} → x ≡ rest w t → y ≡ rest w u → Goes w (same t u ∷ []) (same x y ∷ [])
 same_one w e f = at_same w e f nothing_goes
 
-pub equal_one : (w : Constructors) {s : Site} {p q : Place} {t u x y : Typ} → x ≡ rest w t → y ≡ rest w u → Goes (demand s p (equal t u) ∷ []) (demand s q (equal x y) ∷ [])
+pub equal_one : (w : Constructors) {s : Site} {p q : Place} {t u x y : Typ} → x ≡ rest w t → y ≡ rest w u → Goes w (demand s p (equal t u) ∷ []) (demand s q (equal x y) ∷ [])
 equal_one w e f = at_equal w e f nothing_goes
 
 -- what depends on one thing
-pub along : {A : Type 0} (f g : A → List Condition) {a b : A} → a ≡ b → Goes (f a) (g a) → Goes (f a) (g b)
-along f g {a} e h = subst (λ z. Goes (f a) (g z)) e h
+pub along : {w : Constructors} {A : Type 0} (f g : A → List Condition) {a b : A} → a ≡ b → Goes w (f a) (g a) → Goes w (f a) (g b)
+along {w} f g {a} e h = subst (λ z. Goes w (f a) (g z)) e h
 
 -- the built-in types stay
 pub type_left : (w : Constructors) (k : ℕ) → k < 8 → built_in_type k ≡ rest w (built_in_type k)
@@ -210,8 +240,8 @@ general_left w {E} {F} {ts} {us} h g t u e = record { body = e; bound = λ v b. 
     by v false false go e = e
 
 -- that a path to another kind than values is bound
-pub at_bound : {w : Constructors} (c : Pair w) (n k : ℕ) (kind : Kind) (x : Word) (p : Written) (t : Tok) {cs ds : List Condition} → same_kind kind value_kind ≡ false → Goes cs ds →
-    Goes (ask_bound (left c) n k kind x p t ++ cs) (ask_bound (right c) n k kind x p t ++ ds)
+pub at_bound : {w : Constructors} (c : Pair w) (n k : ℕ) (kind : Kind) (x : Word) (p : Written) (t : Tok) {cs ds : List Condition} → same_kind kind value_kind ≡ false → Goes w cs ds →
+    Goes w (ask_bound (left c) n k kind x p t ++ cs) (ask_bound (right c) n k kind x p t ++ ds)
 at_bound {w} c n k kind x p t apart h = at_test (ap is_found (lookup_one w.all (names_of p.qualifiers) kind t.name apart c.names)) h
 
 -- and one to a value, with the instance of what is found
@@ -219,5 +249,5 @@ found_same : {os : List Path} {f g : Found} → ErasedFound os f g → is_found 
 found_same (found.two_values h) = refl
 found_same (one_thing h) = refl
 
-pub at_value : {w : Constructors} (c : Pair w) (n k : ℕ) (x : Word) (p : Written) (t : Tok) {cs ds : List Condition} → Goes cs ds → Goes (ask_bound (left c) n k value_kind x p t ++ cs) (ask_bound (right c) n k value_kind x p t ++ ds)
+pub at_value : {w : Constructors} (c : Pair w) (n k : ℕ) (x : Word) (p : Written) (t : Tok) {cs ds : List Condition} → Goes w cs ds → Goes w (ask_bound (left c) n k value_kind x p t ++ cs) (ask_bound (right c) n k value_kind x p t ++ ds)
 at_value {w} c n k x p t h = at_test (found_same (value_found w.all c.names (names_of p.qualifiers) t.name)) h

@@ -10,3 +10,4 @@ pub mod Expressions
 pub mod Rows
 pub mod Texts
 pub mod Settled
+pub mod Pairs

@@ -17,13 +17,13 @@ use Rattle.typed_model.specs.Shown.{IsToldTyped, IsTypingOf, asked}
 use Rattle.typing_laws.proofs.Bools.{no_yes, and_cases}
 use Rattle.settled_types.specs.Made.{Constructors, is_made_of, are_made_of, names_made_of}
 use Rattle.settled_types.proofs.Erasing.{Stays, left_stays, instance_stays, made_known}
-use Rattle.settled_types.proofs.Goes.{rest, chosen_rest}
+use Rattle.settled_types.proofs.Goes.{rest, goes_each, chosen_rest}
 use Rattle.settled_types.proofs.Texts.{text_goes}
 
 -- What is left of the types of a principal typing meets what the text asks as they do, so it is an instance of them.
 types_stay : (w : Constructors) (env : Environment) (items : List Tree) (kept : Site → Bool) (types : ℕ → Typ) → has_values_alone items ≡ true → are_bare items ≡ true → names_made_of w.all env ≡ true → IsPrincipal env items kept types → (n : ℕ) → Stays w.all (types n)
 types_stay w env items kept types values bare made p n =
-    let holds : AllHold kept (conditions_of env items kept (chosen_rest w p.fits.choice)) = text_goes w env items values bare made kept p.fits.choice p.fits.holds in
+    let holds : AllHold kept (conditions_of env items kept (chosen_rest w p.fits.choice)) = goes_each (text_goes w env items values bare made kept p.fits.choice) kept p.fits.holds in
     let fits : Fits kept (conditions_of env items kept) (λ n. rest w (p.fits.choice.type_at n)) = record { choice = chosen_rest w p.fits.choice; chosen = λ n. refl; holds = holds } in
     let (s, same) = p.general (λ n. rest w (p.fits.choice.type_at n)) fits in
     instance_stays w.all s (types n) (subst (Stays w.all) (same n) (left_stays w.all (p.fits.choice.type_at n)))

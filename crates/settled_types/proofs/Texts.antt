@@ -8,7 +8,7 @@ use Rattle.type_model.specs.Schemes.{Scheme}
 use Rattle.signature_model.specs.Declarations.{Name, in_text}
 use Rattle.signature_model.specs.Declarations as declarations
 use Rattle.signature_model.specs.Entries.{Environment, entry, a_value, an_exception}
-use Rattle.typing_model.specs.Demands.{Site, AllHold}
+use Rattle.typing_model.specs.Demands.{Site}
 use Rattle.typing_model.specs.Contexts.{Choice, Bound, Context, parameters, type_at, entries_with, generalised_in}
 use Rattle.typing_model.specs.Parts.{Expression, Pattern, TypeExpression, Binding, ConstructorPart, Item, Seen, seen_too, no_names, Child, token_in, no_expression_at, no_pattern_at, no_type_at, types_in, expressions_in, patterns_in, place_of}
 use Rattle.typing_model.specs.Bindings.{names_of_group, held_by}
@@ -135,11 +135,11 @@ module _ (w : Constructors) where
 
   -- an item's conditions hold of what is left, and so do the names that it adds
   record GoesItem (i : Item) : Type 0 where
-    pub asks : (c : Pair w) (seen : Seen) → Goes (i.asks (left c) seen) (i.asks (right c) seen)
+    pub asks : (c : Pair w) (seen : Seen) → Goes w (i.asks (left c) seen) (i.asks (right c) seen)
     pub adds : (c : Pair w) → RestEntries (i.adds (left c)) (i.adds (right c))
     pub named : (c : Pair w) → i.named (left c) ≡ i.named (right c)
 
-  made_goes : (n : ℕ) (c : Pair w) (bs : List Bound) → Each (RestName w) bs → Goes (names_made n (left c) bs) (names_made n (right c) bs)
+  made_goes : (n : ℕ) (c : Pair w) (bs : List Bound) → Each (RestName w) bs → Goes w (names_made n (left c) bs) (names_made n (right c) bs)
   made_goes n c [] no_one = nothing_goes
   made_goes n c (b ∷ bs) (one_and s each) = at_made w (s.gives c) (made_goes n c bs each)
 
@@ -160,7 +160,7 @@ module _ (w : Constructors) where
   no_item_goes n = record { asks = λ c seen. nothing_goes; adds = λ c. no_entries; named = λ c. refl }
 
   -- an exception without an argument reads no type, and its name stands for the same
-  none_read : (c : Pair w) (o : Option TypeExpression) → o ≡ None → Goes (read_optional (record (left c) { variables = parameters [] }) o) (read_optional (record (right c) { variables = parameters [] }) o)
+  none_read : (c : Pair w) (o : Option TypeExpression) → o ≡ None → Goes w (read_optional (record (left c) { variables = parameters [] }) o) (read_optional (record (right c) { variables = parameters [] }) o)
   none_read c None e = nothing_goes
   none_read c (Some t) e = absurd (cc)
 
@@ -205,13 +205,13 @@ module _ (w : Constructors) where
   abbrev behind_item : (c : Pair w) (i : Item) → GoesItem i → Pair w
   behind_item c i s = record { env = i.adds (left c) ++ c.env; others = i.adds (right c) ++ c.others; item = c.item; held = c.held; kept = c.kept; choice = c.choice; names = in_front (s.adds c) c.names }
 
-  asked_goes : (c : Pair w) (seen : Seen) (xs : List Item) → Each GoesItem xs → Goes (items_ask (left c) seen xs) (items_ask (right c) seen xs)
+  asked_goes : (c : Pair w) (seen : Seen) (xs : List Item) → Each GoesItem xs → Goes w (items_ask (left c) seen xs) (items_ask (right c) seen xs)
   asked_goes c seen [] no_one = nothing_goes
   asked_goes c seen (i ∷ xs) (one_and s each) =
       behind (s.asks c seen) (along (λ names. items_ask (left (behind_item c i s)) (seen_too seen names) xs) (λ names. items_ask (right (behind_item c i s)) (seen_too seen names) xs) (s.named c)
       (asked_goes (behind_item c i s) (seen_too seen (i.named (left c))) xs each))
 
   -- What a text asks holds of what is left of types where it holds of them, from names that are made of these constructors alone.
-  pub text_goes : (env : Environment) (text : List Tree) → has_values_alone text ≡ true → are_bare text ≡ true → names_made_of w.all env ≡ true → (kept : Site → Bool) (ch : Choice) → AllHold kept (conditions_of env text kept ch) → AllHold kept (conditions_of env text kept (chosen_rest w ch))
-  text_goes env text values bare made kept ch h =
-      (asked_goes (record { env = env; others = env; item = 0; held = []; kept = kept; choice = ch; names = as_made made }) no_names (items_of text) (items_go 1 text values bare)).each kept h
+  pub text_goes : (env : Environment) (text : List Tree) → has_values_alone text ≡ true → are_bare text ≡ true → names_made_of w.all env ≡ true → (kept : Site → Bool) (ch : Choice) → Goes w (conditions_of env text kept ch) (conditions_of env text kept (chosen_rest w ch))
+  text_goes env text values bare made kept ch =
+      asked_goes (record { env = env; others = env; item = 0; held = []; kept = kept; choice = ch; names = as_made made }) no_names (items_of text) (items_go 1 text values bare)

@@ -4,3 +4,4 @@ pub mod AtNodes
 pub mod Behind
 pub mod Weak
 pub mod Programs
+pub mod Messages

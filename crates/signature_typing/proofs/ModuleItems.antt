@@ -66,6 +66,7 @@ module_done a first begun b d {E = E} at n y x seen ms asked untyped only at' p 
         owners = owned_all (items_treated n inside.carried).left (λ c. tt);
         clear = λ k placed. absurd k;
         sees = λ k. absurd k;
+        stops = λ k. absurd k;
         knows = λ k. absurd k;
         outside = outside_between last starts.outside;
         noted = subst (λ U. AreNoted U d) (sym starts.older) noted;

@@ -87,6 +87,7 @@ module _ (a b : Parts) {G : Letters} {env : List Entry} {E : Choice → Environm
           carried = items_treated N carried;
           clear = λ k placed. absurd k;
           sees = λ k. absurd k;
+          stops = λ k. absurd k;
           knows = λ k. absurd k;
           owners = treated_owned N carried (settled_owned at on_types (own_types a at constants) (own_at a at constants) names z.settled.settled (λ c. written.read (record c { variables = parameters names })) (λ c. refl) z.settled.reports (ap is_aloud goes.telling) (ap fixed_of goes.constants)
               (λ V fits. fits_declared (frame_declares a at constants) z.to.on.assigns z.closes V fits) N (recorded_value a.item n t) declared);

@@ -1,7 +1,7 @@
 -- The faults of items that are `let`, `;;` and exceptions without an argument: those of the demands that aren't kept, in order.
-use Rattle.std.proofs.Common.{◌≡◌, ◌∙◌, inl, inr, ℕ, ◌<◌, ◌^◌, Bool, true, false, Option, None, Some, List, [], ◌∷◌, ◌++◌, map, refl, sym, ap, subst, arith, if◌then◌else◌}
-use Rattle.std.specs.Prelude.{All}
-use Rattle.std.proofs.lemmas.List.Elements.{All-head, All-tail}
+use Rattle.std.proofs.Common.{◌≡◌, ◌∙◌, inl, inr, ℕ, suc, ◌<◌, ◌^◌, Bool, true, false, Option, None, Some, List, [], ◌∷◌, ◌++◌, map, refl, sym, ap, subst, arith, if◌then◌else◌}
+use Rattle.std.specs.Prelude.{All, slice_get}
+use Rattle.std.proofs.lemmas.List.Elements.{All-nil, All-cons, All-head, All-tail}
 use Rattle.tree_model.specs.Rows as rows
 use Rattle.tree_model.specs.Rows.{Row}
 use Rattle.tree_model.specs.Trees.{Place, Tree, node, inner, size_of}
@@ -15,8 +15,10 @@ use Rattle.typing_model.specs.Typings.{conditions_of}
 use Rattle.type_nodes.specs.Nodes.{IsPlain}
 use Rattle.typing_model.specs.Demands.{Site, Complaint, Demand, equal, test, agrees, matches, closes, Condition, same, instance, made, known, demand, treated}
 use Rattle.typing_model.specs.Demands as complaint
-use Rattle.fault_model.specs.Refused as fault
-use Rattle.fault_model.specs.Refused.{kind_of_complaint, kind_asked, says_asked, says_by, Refused, refused_as, refused_of, standing, AreOfValues, AreRefused}
+use Rattle.query_model.specs.Faults.{TyperKind, TyperFault}
+use Rattle.query_model.specs.Faults as fault
+use Rattle.fault_model.specs.Refused as model
+use Rattle.fault_model.specs.Refused.{kind_of_complaint, kind_asked, says_asked, says_by, Refused, refused_as, refused_of, standing, AreOfValues, IsTold, AreRefused}
 use Rattle.env_table.specs.declared.entries.Entry.{Entry}
 use Rattle.env_table.specs.declared.faults.Fault.{Fault}
 use Rattle.env_table.specs.declared.faults.FaultKind.{FaultKind}
@@ -36,6 +38,11 @@ use Rattle.site_laws.proofs.Texts.{AreSmall}
 use Rattle.text_laws.proofs.Orderly.{values_orderly}
 use Rattle.text_laws.proofs.Kept.{met, text_kept}
 use Rattle.text_laws.proofs.Principal.{sure_principal}
+use Rattle.text_laws.specs.Stopped.{IsStopped}
+use Rattle.text_laws.proofs.Stopped.{values_stopped}
+use Rattle.text_laws.proofs.Messages.{values_message}
+use Rattle.prelude_checks.proofs.FirstAscii.{first_ascii}
+use Rattle.prelude_checks.proofs.FirstTypes.{first_constructors, first_made, first_reached, first_clean}
 use Rattle.typing_conditions.proofs.Adequate.{kept_of}
 use Rattle.module_steps.specs.declared.scenes.Scene.{Scene}
 use Rattle.module_typing.specs.Items.{TakesNone, KeepsKnown, AllKeep, AddsValues}
@@ -113,7 +120,7 @@ told_refused kept (demand s at d ∷ cs) rs h = by (λ us told. told_refused kep
 told_refused kept (treated n env ∷ cs) rs h = told_refused kept cs rs h
 
 -- what is told but for warnings are the reports, by place and kind, and by message where that is fixed
-warnings_alike : (k : FaultKind) → fault.is_warning (api.kind_of k) ≡ is_warning k
+warnings_alike : (k : FaultKind) → model.is_warning (api.kind_of k) ≡ is_warning k
 warnings_alike kind.Bound = refl
 warnings_alike kind.Equal = refl
 warnings_alike kind.Arity = refl
@@ -139,6 +146,45 @@ reports_stand (f ∷ fs) = ap (λ b. if b then standing (map api.typer_fault_of 
     by : (b : Bool) → standing (map api.typer_fault_of fs) ≡ map refused_at (reports_of fs) → (if b then standing (map api.typer_fault_of fs) else refused_at (report_of f) ∷ standing (map api.typer_fault_of fs)) ≡ map refused_at (if b then reports_of fs else report_of f ∷ reports_of fs)
     by true others = others
     by false others = ap (λ rs. refused_at (report_of f) ∷ rs) others
+
+-- whether a kind is that of two types that differ
+abbrev is_equal : TyperKind → Bool
+is_equal fault.equal = true
+is_equal _ = false
+
+-- the code has one kind for it
+equal_alone : (k : FaultKind) → is_equal (api.kind_of k) ≡ true → k ≡ kind.Equal
+equal_alone kind.Equal e = refl
+equal_alone kind.Bound e = absurd (no_yes e)
+equal_alone kind.Arity e = absurd (no_yes e)
+equal_alone kind.Label e = absurd (no_yes e)
+equal_alone kind.Mutable e = absurd (no_yes e)
+equal_alone kind.Complete e = absurd (no_yes e)
+equal_alone kind.Unique e = absurd (no_yes e)
+equal_alone kind.Sides e = absurd (no_yes e)
+equal_alone kind.Range e = absurd (no_yes e)
+equal_alone kind.Cycle e = absurd (no_yes e)
+equal_alone kind.Reexport e = absurd (no_yes e)
+equal_alone kind.Functor e = absurd (no_yes e)
+equal_alone kind.With e = absurd (no_yes e)
+equal_alone kind.Closing e = absurd (no_yes e)
+equal_alone kind.Match e = absurd (no_yes e)
+equal_alone kind.Missed e = absurd (no_yes e)
+equal_alone kind.Unused e = absurd (no_yes e)
+
+-- what each report that two types differ has, by its place and message, each such fault has
+equal_told : (P : Place → List ℕ → Type 0) (fs : List Fault) → ((k : ℕ) (r : Report) → slice_get (reports_of fs) k ≡ Some r → r.kind ≡ kind.Equal → P r.at r.message) → All (λ (f : TyperFault). f.kind ≡ fault.equal → P f.span f.message) (map api.typer_fault_of fs)
+equal_told P [] each = All-nil (λ (f : TyperFault). f.kind ≡ fault.equal → P f.span f.message)
+equal_told P (f ∷ fs) each = All-cons (λ (f : TyperFault). f.kind ≡ fault.equal → P f.span f.message) (api.typer_fault_of f) (map api.typer_fault_of fs) here (equal_told P fs (later (is_warning f.kind) refl))
+  where
+    here : api.kind_of f.kind ≡ fault.equal → P (api.typer_fault_of f).span (api.typer_fault_of f).message
+    here e =
+        let is : f.kind ≡ kind.Equal = equal_alone f.kind (ap is_equal e) in
+        each 0 (report_of f) (ap (λ b. slice_get (if b then reports_of fs else report_of f ∷ reports_of fs) 0) (ap is_warning is)) is
+
+    later : (b : Bool) → is_warning f.kind ≡ b → (k : ℕ) (r : Report) → slice_get (reports_of fs) k ≡ Some r → r.kind ≡ kind.Equal → P r.at r.message
+    later true w k r e is = each k r (ap (λ c. slice_get (if c then reports_of fs else report_of f ∷ reports_of fs) k) w ∙ e) is
+    later false w k r e is = each (suc k) r (ap (λ c. slice_get (if c then reports_of fs else report_of f ∷ reports_of fs) (suc k)) w ∙ e) is
 
 -- no item is too large
 pub are_small : (ts : List Tree) → All (λ t. size_of t < 2 ^ 32) ts → AreSmall ts
@@ -184,8 +230,12 @@ all_placed at = record {
     typed_low i p m None e h = absurd (let z : None ≡ Some m = h in cc)
     typed_low i p m (Some z) e h = at.index.low i p z e
 
--- So where items that are `let`, `;;` and such exceptions alone were typed from the state after the prelude, the faults are those of the demands that aren't kept, each at its place, of its kind, and on names with its message.
-pub items_refused : {first : Parts} {env : List Entry} {items : List Tree} {last : Parts} {now : Scene} → Given first env items last now → Opens first env → IsPlain last.store.nodes → (names : Environment) → IsFirst names → AreOfValues items → AreRefused items (standing (map api.typer_fault_of (faults_of last)))
+-- A report that two types differ is told as the definitions have it, from the first environment.
+first_told : {env : Environment} {items : List Tree} {kept : Site → Bool} {r : Report} → IsFirst env → has_values_alone items ≡ true → are_bare items ≡ true → IsStopped env items kept r → IsTold env items kept r.at r.message
+first_told {env} first values bare x = record { site = x.site; refused = x.refused; says = values_message first_constructors values bare (first_made env first) (first_ascii env first) (first_reached env first) first_clean x }
+
+-- So where items that are `let`, `;;` and such exceptions alone were typed from the state after the prelude, the faults are those of the demands that aren't kept, each at its place, of its kind, and on names with its message; and each message that two types differ is that of its demand.
+pub items_refused : {first : Parts} {env : List Entry} {items : List Tree} {last : Parts} {now : Scene} → Given first env items last now → Opens first env → IsPlain last.store.nodes → (names : Environment) → IsFirst names → AreOfValues items → AreRefused items (map api.typer_fault_of (faults_of last))
 items_refused {first} {env} {items} {last} {now} given o plain names is_first t =
     let at = o.starts names is_first in
     let outside = at.starts.outside in
@@ -195,6 +245,8 @@ items_refused {first} {env} {items} {last} {now} given o plain names is_first t 
     let (h, principal, own, alike) = sure_principal {env = names} {text = items} done.carried done.owners at.untyped outside.sound t.values t.bare (are_small items t.few) (plain_nodes last.store.nodes plain) sure (all_placed last) in
     let orderly = values_orderly {env = names} {text = items} t.values in
     let meets = met h in
+    let all_told : reports_of (faults_of last) ≡ done.carried.told = done.carried.reports ∙ ap (λ rs. rs ++ done.carried.told) at.quiet in
+    let stopped = values_stopped {env = names} {text = items} done.carried done.owners at.untyped outside.sound t.values t.bare (are_small items t.few) (plain_nodes last.store.nodes plain) sure (all_placed last) (done.stops (at.known, all_keep items t.values t.bare)) in
     record {
       env = names;
       first = is_first;
@@ -204,4 +256,5 @@ items_refused {first} {env} {items} {last} {now} given o plain names is_first t 
       principal = principal;
       holds = meets.holds;
       are = reports_stand (faults_of last) ∙ ap (map refused_at) (h.carried.reports ∙ ap (λ rs. rs ++ h.carried.told) at.quiet) ∙ told_refused (kept_of done.carried.judged) (conditions_of names items (kept_of done.carried.judged) h.choice) h.carried.told meets.tells;
+      told = equal_told (IsTold names items (kept_of done.carried.judged)) (faults_of last) (λ k r e is. first_told is_first t.values t.bare (stopped k r (ap (λ rs. slice_get rs k) (sym all_told) ∙ e) is));
     }

@@ -4,7 +4,7 @@ use Rattle.std.specs.Prelude.{ℕ}
 use Rattle.tree_model.specs.Trees.{Tree}
 use Rattle.query_model.specs.Faults.{warning, source_of}
 use Rattle.typing_model.specs.Typable.{AreTypable, IsTypable}
-use Rattle.fault_model.specs.Refused.{standing, AreOfValues, IsOfValues, AreRefused}
+use Rattle.fault_model.specs.Refused.{AreOfValues, IsOfValues, AreRefused}
 use Rattle.service_model.specs.Structure.{items_in, AreWarnings, TyperFaults}
 use Rattle.token_laws.proofs.Ones.{lex_one}
 use Rattle.syntax_tree.specs.View.{trees_of}
@@ -62,8 +62,8 @@ values_here text p h t = subst AreOfValues (items_here text p h t) t.items
 
 -- So the faults that a typer found of the items are those of the text: none but warnings where it can be typed, and of such items those of the demands that aren't kept.
 pub typer_found : (text : List ℕ) (p : Parsed) (items : List Tree) (found : List typer.Fault) → IsParsedAs text p → items ≡ trees_of p.tree → (AreTypable items → api.are_warnings found ≡ true)
-    → (AreOfValues items → ∥ AreRefused items (standing (map typer_fault_of found)) ∥₁) → TyperFaults text (map typer_fault_of found)
+    → (AreOfValues items → ∥ AreRefused items (map typer_fault_of found) ∥₁) → TyperFaults text (map typer_fault_of found)
 typer_found text p items found h are silent refused = (
   λ t. warnings_told found (silent (subst AreTypable (sym are) (typable_items text p h t))),
-  λ t. subst (λ ts. ∥ AreRefused ts (standing (map typer_fault_of found)) ∥₁) (are ∙ sym (items_here text p h t)) (refused (subst AreOfValues (sym are) (values_here text p h t))),
+  λ t. subst (λ ts. ∥ AreRefused ts (map typer_fault_of found) ∥₁) (are ∙ sym (items_here text p h t)) (refused (subst AreOfValues (sym are) (values_here text p h t))),
 )

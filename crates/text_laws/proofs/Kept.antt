@@ -32,12 +32,12 @@ not_both : (b c : Bool) → b ≡ true → (b && c) ≡ false → c ≡ false
 not_both true c h e = e
 not_both false c h e = absurd (no_yes h)
 
-either_holds : (b c : Bool) → (b && c) ≡ true → b ≡ true
+pub either_holds : (b c : Bool) → (b && c) ≡ true → b ≡ true
 either_holds true c e = refl
 either_holds false c e = e
 
 -- what doesn't hold fails
-fails : (b : Bool) → (b ≡ true → ⊥) → b ≡ false
+pub fails : (b : Bool) → (b ≡ true → ⊥) → b ≡ false
 fails true h = absurd (h refl)
 fails false h = refl
 

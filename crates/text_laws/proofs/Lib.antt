@@ -3,8 +3,11 @@ pub mod Orderly
 pub mod Once
 pub mod Owners
 pub mod Kept
+pub mod Before
 pub mod General
 pub mod Reading
 pub mod Principal
+pub mod Stopped
+pub mod Messages
 pub mod Silent
 pub mod Typed

@@ -245,23 +245,28 @@ letters_one V {b} open_ones left among one h = record {
     copied : (k : ℕ) (x : Key × ℕ) → slice_get (open_ones ++ left) k ≡ Some x → HasCopy left x
     copied k x e = elim (split_get open_ones left k x e) [ inl r ↦ among r.0 x r.1 | inr r ↦ copy_itself left r.0 x r.1 ]
 
--- What is read off the state after a text, in which no unknown type stands, whatever is kept and was judged.
+-- What is read off a state, in which no unknown type stands, whatever is kept and was judged.
+pub reads_there : (env : Environment) (b : Sight) (G : Letters) (left : List Left) (V : Types) → IsReading b.nodes V → ((m : ℕ) → IsKnown (V m)) → AreOne V b (G ++ letters_left left) → OwnersApart left → DecidedAlone b (G ++ letters_left left) left → (kept : Site → Bool) (js : List Judgement) → AreKept kept js →
+    ReadsItems (λ ch. env) b G left js V (outermost env kept (read_choice V b (G ++ letters_left left) left))
+reads_there env b G left V reads known one owners alone kept js h = record {
+  env = refl;
+  reads = reads;
+  agrees = record {
+    recorded = recorded_there V b (G ++ letters_left left) left one alone;
+    known = λ i k m e. known m;
+    given = given_there V b (G ++ letters_left left) left one alone known G (in_first G (letters_left left));
+  };
+  left_too = left_there b.nodes V b (G ++ letters_left left) one known left [] left alone alone.one refl owners (λ j k l m g h. absurd (cc)) (in_second G (letters_left left));
+  kept = h;
+}
+
+-- So of the state after a text.
 module _ (env : Environment) (text : List Tree) {a b : Sight} {G : Letters} (p : ItemsCarried (λ ch. env) (text_asks text) a [] b G) (V : Types) (reads : IsReading b.nodes V) (known : (m : ℕ) → IsKnown (V m)) (one : AreOne V b (G ++ letters_left p.left)) (owners : OwnersApart p.left) (alone : DecidedAlone b (G ++ letters_left p.left) p.left) where
   abbrev found : Choice
   found = read_choice V b (G ++ letters_left p.left) p.left
 
   pub read_off : (kept : Site → Bool) (js : List Judgement) → AreKept kept js → ReadsItems (λ ch. env) b G p.left js V (outermost env kept found)
-  read_off kept js h = record {
-    env = refl;
-    reads = reads;
-    agrees = record {
-      recorded = recorded_there V b (G ++ letters_left p.left) p.left one alone;
-      known = λ i k m e. known m;
-      given = given_there V b (G ++ letters_left p.left) p.left one alone known G (in_first G (letters_left p.left));
-    };
-    left_too = left_there b.nodes V b (G ++ letters_left p.left) one known p.left [] p.left alone alone.one refl owners (λ j k l m g h. absurd (cc)) (in_second G (letters_left p.left));
-    kept = h;
-  }
+  read_off kept js h = reads_there env b G p.left V reads known one owners alone kept js h
 
   -- Where the text makes each demand once, each site was judged once.
   pub text_apart : AsksOnce env text → AreApart p.judged

@@ -2,7 +2,7 @@
 ghost use Rattle.std.specs.Prelude.{◌≡◌, ◌≤◌, [], None, true, length, map, IfOk, OnOk};
 ghost use Rattle.text_model.specs.Edits.{text_limit};
 ghost use Rattle.typing_model.specs.Typable.{AreTypable};
-ghost use Rattle.fault_model.specs.Refused.{standing, AreOfValues, AreRefused};
+ghost use Rattle.fault_model.specs.Refused.{AreOfValues, AreRefused};
 ghost use Rattle.syntax_tree.specs.Tallies.{Grows};
 ghost use Rattle.syntax_tree.specs.View.{trees_of};
 ghost use Rattle.analysis_api.specs.Types.{AreTyped};
@@ -214,7 +214,7 @@ impl<A: Analyser> TriedText<A> {
         ensures parsed { IsParsedAs self.now.text result.0.now }
         ensures found { IsOf A.items A.finds (trees_of result.0.now.tree) result.1 }
         ensures silent { AreTypable (trees_of result.0.now.tree) → are_warnings result.1.faults.now.list.items ≡ true }
-        ensures refused { AreOfValues (trees_of result.0.now.tree) → ∥ AreRefused (trees_of result.0.now.tree) (standing (map typer_fault_of result.1.faults.now.list.items)) ∥₁ }
+        ensures refused { AreOfValues (trees_of result.0.now.tree) → ∥ AreRefused (trees_of result.0.now.tree) (map typer_fault_of result.1.faults.now.list.items) ∥₁ }
         ensures typed { AreOfValues (trees_of result.0.now.tree) → ∥ AreTyped (trees_of result.0.now.tree) result.1 ∥₁ }
     {
         match (self.kept.parsed(), self.types.known()) {

@@ -32,7 +32,7 @@ use Rattle.typing_state.specs.Types.{MakesVar, any_scope}
 use Rattle.typing_conditions.proofs.Carried.{carried_trans, carried_as, done_as, done_then, done_last}
 use Rattle.typing_conditions.specs.Sights.{own, number_in}
 use Rattle.typing_conditions.proofs.Meaning.{means_on}
-use Rattle.typing_conditions.proofs.Surrounding.{surrounds_on, surrounds_sees}
+use Rattle.typing_conditions.proofs.Surrounding.{surrounds_on, surrounds_sees, sees_on}
 use Rattle.typing_steps.specs.States.{is_aloud}
 use Rattle.typing_steps.specs.Typing.{AsksEqual}
 use Rattle.typing_steps.proofs.Still.{plain_noted}
@@ -253,11 +253,11 @@ several_end a b d m span (x ∷ y ∷ zs) v le is only made rest =
     ends_several a b d m x.0 y.0 span (numbers zs) v (subst (λ k. ArityIs v a b span (codes "(,)") 1 k) (sym (many_numbers (x ∷ y ∷ zs))) is) only made rest
 
 -- a part that has the type which is written behind it
-pub annotated : (a b d : Parts) (env : List Entry) (o : Numbered) (place : Place) (found m : ℕ) → ReadsOperand a b env o m → Goes a b → AsksEqual b d place found m → IsTypeOperand o → Annotates a d env (type_of a.item o) place found m
-annotated a b d env o place found m read goes asked operand = λ aloud F scope G n k is s has.
+pub annotated : (a b d : Parts) (env : List Entry) (o : Numbered) (place : Place) (found m : ℕ) → ReadsOperand a b env o m → Goes a b → AsksEqual b d env place found m → IsTypeOperand o → Annotates a d env (type_of a.item o) place found m
+annotated a b d env o place found m read goes asked operand = λ aloud F scope G n k is its s has.
     let w = type_of a.item o in
     let x = read operand aloud F scope G s in
-    let y = asked (ap is_aloud goes.telling ∙ aloud) F scope ((own w.node, m) ∷ G) (site n k) is (λ ch. ch.type_at w.node) (means_on x.carried.stays has) x.means in
+    let y = asked (ap is_aloud goes.telling ∙ aloud) F scope ((own w.node, m) ∷ G) (site n k) is (λ ch. ch.type_at w.node) its (sees_on scope x.carried.stays s.reached (surrounds_sees s)) (means_on x.carried.stays has) x.means in
     record { carried = carried_trans x.carried y; means = means_on y.stays x.means; done = done_then x.carried y x.done }
 
 -- parentheses around nothing

@@ -120,6 +120,16 @@ pub record PrintsTwoIn (nodes : List Node) (env : List Entry) (t u : Typ) (first
   pub prints_first : PrintsNamed env declared [] (variables_of t ++ variables_of u) t first
   pub prints_second : PrintsNamed env declared [] (variables_of t ++ variables_of u) u second
 
+-- the names of the variables of two types, which they share, by first occurrence
+abbrev pub shared_names : List Node → (a b : ℕ) → ℕ → List ℕ
+shared_names nodes a b = variable_name [] (variables_of (shown nodes a) ++ variables_of (shown nodes b))
+
+-- the texts of two types, by each naming of origins that agrees with all nodes, and by one of their own
+pub record ShowTwo (nodes : List Node) (env : List Entry) (a b : ℕ) (first second : List ℕ) : Type 0 where
+  pub found_first : PrintsWith nodes env (shared_names nodes a b) (shown nodes a) first
+  pub found_second : PrintsWith nodes env (shared_names nodes a b) (shown nodes b) second
+  pub inside : PrintsTwoIn nodes env (shown nodes a) (shown nodes b) first second
+
 -- the name of a type's constructor
 abbrev pub head_text : Names → Typ → List ℕ
 head_text ns (type.Var v) = []

@@ -19,6 +19,7 @@ use Rattle.typing_conditions.proofs.Judged.{hold_both, hold_left, hold_right, ju
 use Rattle.typing_conditions.proofs.Stays.{stays_trans, agrees_before}
 use Rattle.typing_conditions.proofs.Carried.{Decides, less_or_more}
 use Rattle.typing_conditions.proofs.Hiding.{settles_on, placed_before}
+use Rattle.typing_conditions.proofs.Stops.{stop_silent}
 
 -- conditions are one demand
 abbrev pub IsOneDemand : List Condition → Type 0
@@ -111,6 +112,7 @@ carried_behind {F} {scope} {asks} {rest} {type} {a} {b} {G} {H} {opened} p tail 
     | inr short ↦ inr (subst (λ js. FallsShort js p.judged) (sym (judged_whole c)) short)
   ];
   first = λ named k V c e h. by_place named k V c e h (less_or_more k (length (asks c)));
+  stops = λ k r e kind. stop_silent (λ c. known (type c.chosen) ∷ rest c) p tail.opens (p.stops k r e kind);
 }
   where
     behind : Context → List Condition

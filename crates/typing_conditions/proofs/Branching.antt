@@ -15,6 +15,7 @@ use Rattle.typing_conditions.specs.Carrying.{Asks, Scope, HoldsWritten, IsUnder,
 use Rattle.typing_conditions.proofs.Stays.{agrees_before, named_before, bounds_before}
 use Rattle.typing_conditions.proofs.Judged.{hold_left, judged_both, judged_kept, kept_left, given_left, given_right, follows_both, short_left, short_of_more, starts_left}
 use Rattle.typing_conditions.proofs.Carried.{Decides, carried_trans, less_or_more}
+use Rattle.typing_conditions.proofs.Stops.{stops_both}
 
 -- What is asked after some conditions may depend on how those are judged, and on the names in scope: `actual` is what it is under these judgements, in each context that
 -- the state before allows.
@@ -34,6 +35,7 @@ carried_after {F} {scope} {asks} {further} {actual} {a} {b} {d} {G} {H} {K} p by
   follows = follows;
   complete = complete;
   first = λ named k V c e h. first_of named k V c e h (less_or_more k (length (asks c)));
+  stops = stops_both p by_kept q;
 }
   where
     both : Carried F scope (λ c. asks c ++ actual c) a G d K

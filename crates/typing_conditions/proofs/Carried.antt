@@ -1,10 +1,12 @@
 -- What is carried, through one call after another.
-use Rattle.std.proofs.Common.{◌≡◌, ◌∙◌, ◌++◌, ℕ, zero, suc, ◌+◌, ◌-◌, ◌≤◌, ◌<◌, ◌⊎◌, inl, inr, Bool, List, [], take, length, refl, sym, ap, subst, append_assoc, append-nil, arith}
+use Rattle.std.proofs.Common.{◌≡◌, ◌∙◌, ◌++◌, ℕ, zero, suc, ◌+◌, ◌-◌, ◌≤◌, ◌<◌, ◌⊎◌, inl, inr, Bool, true, ◌||◌, Some, List, [], ◌∷◌, take, length, refl, sym, ap, subst, append_assoc, append-nil, length-append, arith}
 use Rattle.std.specs.Prelude.{slice_get}
 use Rattle.std.proofs.lemmas.List.{take-append-le}
 use Rattle.std.proofs.Math.Seq.{take-append-add}
 use Rattle.type_model.specs.Types.{Typ, occurs}
-use Rattle.typing_model.specs.Demands.{Condition, AllHold}
+use Rattle.type_model.proofs.Applying.{or_left, or_cases}
+use Rattle.signature_model.specs.Entries.{Environment}
+use Rattle.typing_model.specs.Demands.{Condition, treated, AllHold}
 use Rattle.typing_model.specs.Contexts.{Choice, Context}
 use Rattle.type_nodes.specs.Nodes.{Node}
 use Rattle.type_nodes.specs.Readings.{Types}
@@ -12,13 +14,14 @@ use Rattle.typing_conditions.specs.Sights.{Sight, Key, Letters, AreGiven, AreNod
 use Rattle.typing_conditions.specs.Frames.{Frame}
 use Rattle.typing_conditions.specs.Seeing.{IsSeen}
 use Rattle.typing_conditions.specs.Judging.{Judgement, judgements, AreKept, Follows, StartsWith, FallsShort, Meets}
-use Rattle.typing_conditions.specs.Carrying.{Asks, Scope, HoldsWritten, IsUnder, Enters, GoesOn, AreHidden, Continues, Carried, ReadsOff}
+use Rattle.typing_conditions.specs.Carrying.{Asks, Scope, with_own, at_node, IsTreated, IsAround, AreStops, HoldsWritten, IsUnder, Enters, GoesOn, AreHidden, Continues, Carried, ReadsOff}
 use Rattle.typing_conditions.proofs.Judged.{hold_both, hold_left, hold_right, judged_both, counted_both, kept_left, kept_right, given_left, given_right, given_both, nodes_left, nodes_both, tell_both, seen_both, starts_both, follows_both, short_left, short_right, short_of_more, starts_all, starts_left, starts_right}
 use Rattle.typing_conditions.proofs.Meaning.{nodes_in, given_same}
 use Rattle.typing_conditions.proofs.Stays.{stays_refl, stays_trans, stays_closed, agrees_before, named_before, bounds_before, enters_next, goes_further}
 use Rattle.typing_conditions.specs.Hiding.{marked, HasCopy, AreDone, Owns}
 use Rattle.typing_conditions.proofs.Hiding.{settles_none, settles_both, given_marked, nodes_marked, placed_before, none_doubtful, none_both, copy_first, copy_second, keeps_same, done_on, owns_on}
 use Rattle.typing_conditions.specs.Meanings.{Means}
+use Rattle.typing_conditions.proofs.Stops.{none_stop, stops_both, stop_as, AreAround, stop_under, around_told, get_first, get_second, get_cases, stop_first, stop_within}
 use Rattle.level_unify.proofs.Unified.{fits_loosely}
 use Rattle.level_unify.specs.Solutions.{Loose}
 
@@ -54,6 +57,7 @@ carried_refl {F} {scope} {a} {G} = record {
   follows = λ r V c l. refl;
   complete = λ named V c e h. inl (record { same = refl; types = V; on = record { fits = e.fits; before = λ n lt. refl; agrees = e.agrees }; hidden_too = (tt, tt) });
   first = λ named k V c e h. inl (subst (λ cs. StartsWith [] (judgements c.kept cs)) (sym (take_none k)) (starts_all []));
+  stops = none_stop;
 }
 
 -- a number is at most another one, or it is more
@@ -129,6 +133,7 @@ carried_trans {F} {scope} {asks} {further} {a} {b} {c} {G} {H} {K} p q = record 
     | inr short ↦ inr (falls_first x (further x) short)
   ];
   first = λ named k V x e h. by_place named k V x e h (less_or_more k (length (asks x)));
+  stops = stops_both p (λ V x loose under agrees named kept. refl) q;
 }
   where
     -- the first ones fall short
@@ -192,9 +197,9 @@ pub owns_last : {F : Frame} {scope : Scope} {asks further : Asks} {a b c : Sight
 owns_last p q o = owns_on keeps_same (trans_hides p q).1 o
 
 -- what is asked in one context, by what is asked in another that the first one decides, of a scope that holds the same type variables
-pub carried_under : {F : Frame} {scope inner : Scope} {asks : Asks} {a b : Sight} {G H : Letters} (into : Context → Context) → inner.held ≡ scope.held → ((c : Context) → ((into c).kept ≡ c.kept) × ((into c).chosen ≡ c.chosen)) →
-    ((c : Context) → IsUnder scope c → IsUnder inner (into c)) → Carried F inner asks a G b H → Carried F scope (λ c. asks (into c)) a G b H
-carried_under {F} {scope} {inner} {asks} {a} {b} {G} {H} into held still has p = record {
+pub carried_into : {F : Frame} {scope inner : Scope} {asks : Asks} {a b : Sight} {G H : Letters} (into : Context → Context) → inner.held ≡ scope.held → ((c : Context) → ((into c).kept ≡ c.kept) × ((into c).chosen ≡ c.chosen)) →
+    ((c : Context) → IsUnder scope c → IsUnder inner (into c)) → (p : Carried F inner asks a G b H) → AreStops F scope (λ c. asks (into c)) a G b (p.hidden ++ H) p.judged p.told → Carried F scope (λ c. asks (into c)) a G b H
+carried_into {F} {scope} {inner} {asks} {a} {b} {G} {H} into held still has p stops = record {
   stays = p.stays;
   hidden = p.hidden;
   settled = p.settled;
@@ -241,6 +246,7 @@ carried_under {F} {scope} {inner} {asks} {a} {b} {G} {H} into held still has p =
   first = λ named k V c e h.
       subst (λ m. StartsWith p.judged (judgements m (take k (asks (into c)))) ⊎ FallsShort (judgements m (take k (asks (into c)))) p.judged) (still c).0
       (p.first (named_in b named) k V (into c) (enters V c e) (subst (λ m. AllHold m (take k (asks (into c)))) (sym (still c).0) h));
+  stops = stops;
 }
   where
     named_in : (x : Sight) → HoldsWritten scope x → HoldsWritten inner x
@@ -249,13 +255,23 @@ carried_under {F} {scope} {inner} {asks} {a} {b} {G} {H} into held still has p =
     enters : (V : Types) (c : Context) → Enters F scope a G V c → Enters F inner a G V (into c)
     enters V c e = record { under = has c e.under; inside = e.inside; fits = e.fits; agrees = subst (Agrees F.owner a G V) (sym (still c).1) e.agrees }
 
+-- the same, where the demands are made in the same environment, but for values, and for the same nodes, or in one in which a node is said to be treated
+pub carried_under : {F : Frame} {scope inner : Scope} {asks : Asks} {a b : Sight} {G H : Letters} (into : Context → Context) → inner.held ≡ scope.held → ((c : Context) → ((into c).kept ≡ c.kept) × ((into c).chosen ≡ c.chosen)) →
+    ((c : Context) → IsUnder scope c → IsUnder inner (into c)) → AreAround scope inner into asks → Carried F inner asks a G b H → Carried F scope (λ c. asks (into c)) a G b H
+carried_under into held still has around p = carried_into into held still has p (λ k r e kind. stop_under into held still has around (p.stops k r e kind))
+
 -- a choice agrees with letters that have their types by what there is besides
 dropped_agree : {owner : ℕ} {b : Sight} (own : Letters) {G : Letters} {V : Types} {ch : Choice} → AreGiven own V ch → Agrees owner b G V ch → Agrees owner b (own ++ G) V ch
 dropped_agree own {G} {V} {ch} given g = record { recorded = g.recorded; known = g.known; written = g.written; given = given_both V ch own G given g.given }
 
--- Letters that have the types of their nodes wherever a choice agrees with what there is besides needn't be open, nor hidden.
-pub carried_dropped : {F : Frame} {scope : Scope} {asks : Asks} {a b : Sight} (own : Letters) {G : Letters} → ((V : Types) (ch : Choice) → Loose b.nodes V → Agrees F.owner b G V ch → AreGiven own V ch) → Carried F scope asks a G b (own ++ G) → Carried F scope asks a G b G
-carried_dropped {F} {scope} {asks} {a} {b} own {G} implied p = record {
+-- what a list has at its end beyond itself is nothing
+none_more : {A : Type 0} (xs ys : List A) → xs ≡ xs ++ ys → ys ≡ []
+none_more xs [] e = refl
+none_more xs (y ∷ ys) e = absurd (let same = ap length e ∙ length-append xs (y ∷ ys) in omega arith)
+
+-- Letters that have the types of their nodes wherever a choice agrees with what there is besides needn't be open, nor hidden, where nothing is reported.
+pub carried_dropped : {F : Frame} {scope : Scope} {asks : Asks} {a b : Sight} (own : Letters) {G : Letters} → ((V : Types) (ch : Choice) → Loose b.nodes V → Agrees F.owner b G V ch → AreGiven own V ch) → Carried F scope asks a G b (own ++ G) → b.reports ≡ a.reports → Carried F scope asks a G b G
+carried_dropped {F} {scope} {asks} {a} {b} own {G} implied p silent = record {
   stays = stays_closed own p.stays;
   hidden = p.hidden;
   settled = p.settled;
@@ -280,6 +296,7 @@ carried_dropped {F} {scope} {asks} {a} {b} own {G} implied p = record {
     | inr short ↦ inr short
   ];
   first = p.first;
+  stops = λ k r e kind. absurd (let none : slice_get [] k ≡ Some r = ap (λ rs. slice_get rs k) (sym (none_more a.reports p.told (sym silent ∙ p.reports))) ∙ e in cc);
 }
   where
     reads_too : {js : List Judgement} (V : Types) (c : Context) → ReadsOff F scope b G p.hidden js V c → ReadsOff F scope b (own ++ G) p.hidden js V c
@@ -319,6 +336,7 @@ carried_as {F} {scope} {asks} {others} {a} {b} {G} {H} e p = record {
     | inr short ↦ inr (subst (λ cs. FallsShort (judgements c.kept cs) p.judged) (e c) short)
   ];
   first = λ named k V c en h. subst (λ cs. Decides c p.judged (take k cs)) (e c) (p.first named k V c en (subst (λ cs. AllHold c.kept (take k cs)) (sym (e c)) h));
+  stops = λ k r f kind. stop_as e (p.stops k r f kind);
 }
 
 -- they hide the same then
@@ -328,14 +346,14 @@ as_hides e p = refl
 
 -- and so in a context further in
 pub under_hides : {F : Frame} {scope inner : Scope} {asks : Asks} {a b : Sight} {G H : Letters} (into : Context → Context) (held : inner.held ≡ scope.held) (still : (c : Context) → ((into c).kept ≡ c.kept) × ((into c).chosen ≡ c.chosen))
-    (has : (c : Context) → IsUnder scope c → IsUnder inner (into c)) (p : Carried F inner asks a G b H) → (carried_under into held still has p).hidden ≡ p.hidden
-unfolding carried_under
-under_hides into held still has p = refl
+    (has : (c : Context) → IsUnder scope c → IsUnder inner (into c)) (around : AreAround scope inner into asks) (p : Carried F inner asks a G b H) → (carried_under into held still has around p).hidden ≡ p.hidden
+unfolding carried_under carried_into
+under_hides into held still has around p = refl
 
 -- and where letters are dropped
-pub dropped_hides : {F : Frame} {scope : Scope} {asks : Asks} {a b : Sight} (own : Letters) {G : Letters} (implied : (V : Types) (ch : Choice) → Loose b.nodes V → Agrees F.owner b G V ch → AreGiven own V ch) (p : Carried F scope asks a G b (own ++ G)) → (carried_dropped own implied p).hidden ≡ p.hidden
+pub dropped_hides : {F : Frame} {scope : Scope} {asks : Asks} {a b : Sight} (own : Letters) {G : Letters} (implied : (V : Types) (ch : Choice) → Loose b.nodes V → Agrees F.owner b G V ch → AreGiven own V ch) (p : Carried F scope asks a G b (own ++ G)) (silent : b.reports ≡ a.reports) → (carried_dropped own implied p silent).hidden ≡ p.hidden
 unfolding carried_dropped
-dropped_hides own implied p = refl
+dropped_hides own implied p silent = refl
 
 -- so what is so of letters of rows that are done, and of those that are open over a row, is so then
 pub done_as : {F : Frame} {scope : Scope} {asks others : Asks} {a b : Sight} {G H ys : Letters} (e : (c : Context) → asks c ≡ others c) (p : Carried F scope asks a G b H) → AreDone b p.hidden ys → AreDone b (carried_as e p).hidden ys
@@ -343,3 +361,57 @@ done_as {b = b} {ys = ys} e p o = subst (λ xs. AreDone b xs ys) (sym (as_hides 
 
 pub owns_as : {F : Frame} {scope : Scope} {asks others : Asks} {a b : Sight} {G H ys : Letters} {n m : ℕ} (e : (c : Context) → asks c ≡ others c) (p : Carried F scope asks a G b H) → Owns n m b p.hidden ys → Owns n m b (carried_as e p).hidden ys
 owns_as {b = b} {ys = ys} {n = n} {m = m} e p o = subst (λ xs. Owns n m b xs ys) (sym (as_hides e p)) o
+
+-- What is carried where a node's own demands are made is carried around it, where the conditions say first that the node is treated.
+pub carried_row : {F : Frame} {scope : Scope} {asks : Asks} {a b : Sight} {G H : Letters} (n : ℕ) → Carried F (at_node n scope) (λ c. treated n c.env ∷ asks c) a G b H → Carried F scope (λ c. treated n c.env ∷ asks c) a G b H
+carried_row {scope = scope} {asks = asks} n p = carried_under (λ c. c) refl (λ c. (refl, refl)) (λ c u. record { env = u.env; variables = u.variables; held = u.held }) (around_told scope asks n) p
+
+-- What is carried where further nodes' demands are made is carried after conditions that say of each of them that it is treated.
+pub carried_told : {F : Frame} {scope : Scope} {asks further : Asks} {a b c : Sight} {G H K : Letters} (own : ℕ → Bool) → ((x : Context) → IsUnder scope x → (n : ℕ) → own n ≡ true → IsTreated n x.env (asks x)) → Carried F scope asks a G b H →
+    Carried F (with_own (λ n. scope.own n || own n) scope) further b H c K → Carried F scope (λ x. asks x ++ further x) a G c K
+unfolding carried_trans carried_under carried_into
+carried_told {F} {scope} {asks} {further} {a} {b} {c} {G} {H} {K} own told p q = carried_into (λ x. x) refl (λ x. (refl, refl)) here both stops
+  where
+    more : Scope
+    more = with_own (λ n. scope.own n || own n) scope
+
+    here : (x : Context) → IsUnder scope x → IsUnder more x
+    here x u = record { env = u.env; variables = u.variables; held = u.held }
+
+    back : (x : Context) → IsUnder more x → IsUnder scope x
+    back x u = record { env = u.env; variables = u.variables; held = u.held }
+
+    first : Carried F more asks a G b H
+    first = carried_under (λ x. x) refl (λ x. (refl, refl)) back around p
+      where
+        around : AreAround more scope (λ x. x) asks
+        around x u k n env s at d e (inl h) = inl h
+        around x u k n env s at d e (inr (one, alike)) = inr (or_left (scope.own n) (own n) one, alike)
+
+    both : Carried F more (λ x. asks x ++ further x) a G c K
+    both = carried_trans first q
+
+    -- a node's demand is one of the scope, or the node is treated before
+    around : (x : Context) → IsUnder scope x → (n : ℕ) (env : Environment) (cs : List Condition) → IsAround more x n env cs → IsAround scope x n env (asks x ++ cs)
+    around x u n env cs (inl (E, (j, e), alike)) = inl (E, (length (asks x) + j, get_second (asks x) cs j ∙ e), alike)
+    around x u n env cs (inr (one, alike)) = elim (or_cases (scope.own n) (own n) one) [
+      | inl mine ↦ inr (mine, alike)
+      | inr theirs ↦ (let (j, e) = told x u n theirs in inl (x.env, (j, get_first (asks x) cs j (treated n x.env) e), alike))
+    ]
+
+    stops : AreStops F scope (λ x. asks x ++ further x) a G c ((p.hidden ++ q.hidden) ++ K) (p.judged ++ q.judged) (p.told ++ q.told)
+    stops k r e kind = elim (get_cases p.told q.told k r e) [
+      | inl f ↦ stop_first further q.hidden q.judged p q.stays (p.stops k r f kind)
+      | inr (j, _, f) ↦ stop_within q.hidden q.judged refl here around p (λ V x loose under agrees named kept. refl) q.stays (q.stops j r f kind)
+    ]
+
+-- what is carried around a row hides what the row does
+pub row_hides : {F : Frame} {asks : Asks} {a b : Sight} {G H : Letters} (scope : Scope) (n : ℕ) (p : Carried F (at_node n scope) (λ c. treated n c.env ∷ asks c) a G b H) → (carried_row {scope = scope} n p).hidden ≡ p.hidden
+unfolding carried_row carried_under carried_into
+row_hides scope n p = refl
+
+-- what is carried where further nodes' demands are made hides what both parts do
+pub further_hides : {F : Frame} {scope : Scope} {asks further : Asks} {a b c : Sight} {G H K : Letters} (own : ℕ → Bool) (told : (x : Context) → IsUnder scope x → (n : ℕ) → own n ≡ true → IsTreated n x.env (asks x)) (p : Carried F scope asks a G b H)
+    (q : Carried F (with_own (λ n. scope.own n || own n) scope) further b H c K) → (carried_told {scope = scope} own told p q).hidden ≡ p.hidden ++ q.hidden
+unfolding carried_told carried_into carried_trans carried_under
+further_hides own told p q = refl

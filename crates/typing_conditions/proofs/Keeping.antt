@@ -5,11 +5,13 @@ use Rattle.typing_model.specs.Contexts.{Choice}
 use Rattle.type_nodes.specs.Readings.{Types}
 use Rattle.typing_conditions.specs.Sights.{Sight, Key, Letters}
 use Rattle.typing_conditions.specs.Frames.{Frame}
-use Rattle.typing_conditions.specs.Carrying.{Asks, Scope, Stays, GoesOn, Carried}
+use Rattle.typing_conditions.specs.Carrying.{Asks, Scope, AreCopied, Stays, GoesOn, Carried}
 use Rattle.typing_conditions.specs.Hiding.{marked, is_sure, HasCopy, ArePlaced, NoneDoubtful, AreDone, AreSure, IsAmong, Owns, NotesRow}
 use Rattle.typing_conditions.proofs.Judged.{given_left, given_right, given_both, nodes_left, nodes_right, nodes_both}
 use Rattle.typing_conditions.proofs.Carried.{hidden_more, carried_trans}
-use Rattle.typing_conditions.proofs.Hiding.{settles_closed, given_unmarked, copy_first, copy_second, marked_copy, done_copies, placed_before, owns_sure, sure_marked}
+use Rattle.typing_conditions.proofs.Copies.{copied_after, copied_parts}
+use Rattle.typing_conditions.proofs.Stops.{lasts_same, stops_end}
+use Rattle.typing_conditions.proofs.Hiding.{settles_closed, given_unmarked, copy_itself, copy_first, copy_second, marked_copy, done_copies, placed_before, owns_sure, sure_marked}
 
 -- no letter is among any
 pub none_among : (own : Letters) → IsAmong [] own
@@ -40,6 +42,7 @@ stays_kept {F} {a} {b} own opens {G} among s = record {
   keeps = s.keeps;
   written = s.written;
   given = λ V ch h. given_right V ch opens G h;
+  opens = copied_after opens G;
   inside = λ i.
       let j = s.inside i in
       record { recorded = j.recorded; written = j.written; given = nodes_both opens G b.nodes (among.inside b.nodes (nodes_left own G b.nodes j.given)) (nodes_right own G b.nodes j.given) };
@@ -114,10 +117,17 @@ carried_kept {F} {scope} {asks} {a} {b} own opens {G} among p are_sure = record 
     | inr short ↦ inr short
   ];
   first = p.first;
+  stops = stops_end p.told (lasts_same b (p.hidden ++ (own ++ G)) ((p.hidden ++ marked test own) ++ (opens ++ G)) copies) p.stops;
 }
   where
     test : Key × ℕ → Bool
     test = is_sure a b (p.hidden ++ own)
+
+    -- what was open or hidden is hidden then, or open still
+    copies : AreCopied (p.hidden ++ (own ++ G)) ((p.hidden ++ marked test own) ++ (opens ++ G))
+    copies = copied_parts p.hidden (own ++ G) ((p.hidden ++ marked test own) ++ (opens ++ G)) (λ k x e. copy_first (p.hidden ++ marked test own) (opens ++ G) (copy_first p.hidden (marked test own) (copy_itself p.hidden k x e)))
+        (copied_parts own G ((p.hidden ++ marked test own) ++ (opens ++ G)) (λ k x e. copy_first (p.hidden ++ marked test own) (opens ++ G) (copy_second p.hidden (marked test own) (marked_copy test own k x e)))
+        (λ k x e. copy_second (p.hidden ++ marked test own) (opens ++ G) (copy_second opens G (copy_itself G k x e))))
 
 -- each of them is hidden then, and what was hidden before
 pub kept_copies : {F : Frame} {scope : Scope} {asks : Asks} {a b : Sight} (own opens : Letters) {G : Letters} (among : IsAmong opens own) (p : Carried F scope asks a G b (own ++ G)) (are_sure : F.known ≡ true → ArePlaced b → AreSure a b p.hidden own) (k : ℕ) (x : Key × ℕ) → slice_get own k ≡ Some x → HasCopy (carried_kept own opens among p are_sure).hidden x

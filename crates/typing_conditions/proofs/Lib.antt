@@ -24,7 +24,9 @@ pub mod DeclaredLater
 pub mod Finding
 -- The laws of what is carried.
 pub mod Judged
+pub mod Copies
 pub mod Stays
+pub mod Stops
 pub mod Carried
 pub mod Framing
 pub mod Making

@@ -4,7 +4,7 @@ use Rattle.std.specs.Prelude.{All}
 use Rattle.type_model.specs.Types.{Path, Typ, types_of}
 use Rattle.type_model.specs.Types.{Typ as type}
 use Rattle.type_model.specs.Limits.{no_scope}
-use Rattle.typing_model.specs.Demands.{same, known, AllHold}
+use Rattle.typing_model.specs.Demands.{same, AllHold}
 use Rattle.typing_model.specs.Contexts.{Choice, Context}
 use Rattle.type_nodes.specs.Nodes.{Node, Var, Arrow, Tuple, Con, parts}
 use Rattle.type_nodes.specs.Readings.{Types, FitsNode}
@@ -28,6 +28,8 @@ use Rattle.typing_conditions.proofs.First.{first_none, first_one, nothing_met}
 use Rattle.typing_conditions.proofs.Making.{with_type, at_own, at_older, in_any_scope, makes_extends, made_here, loose_before, reading_before, fits_made}
 use Rattle.typing_conditions.proofs.Meaning.{all_open, all_types, agrees_same, inside_longer}
 use Rattle.typing_conditions.proofs.Hiding.{keeps_as, settles_none, none_doubtful}
+use Rattle.typing_conditions.proofs.Copies.{copied_after}
+use Rattle.typing_conditions.proofs.Stops.{none_stop}
 
 -- where a node was made everything stays
 pub made_stays : {F : Frame} {G : Letters} {a b : Sight} {s t : List Change} {n : ℕ} {c : Node} (more : Letters) → IsOpen F b n → Makes (state a.nodes s) (state b.nodes t) n c → OnlyNodes a b → AreNodes more b.nodes → Stays F a G b (more ++ G)
@@ -42,6 +44,7 @@ made_stays {F} {G} {a} {b} {s} {t} {n} {c} more opened made rest new = record {
   keeps = keeps_as rest.noted rest.scopes rest.types;
   written = λ x k e. rest.written x ∙ e;
   given = λ V ch h. given_right V ch more G h;
+  opens = copied_after more G;
   inside = λ h. let i = inside_longer a b rest.types rest.written extends.longer h in record { recorded = i.recorded; written = i.written; given = nodes_both more G b.nodes new i.given };
   aloud = rest.aloud;
   item = rest.item;
@@ -72,6 +75,7 @@ letter_made {F} {scope} {G} {a} {b} {s} {t} {n} key free r made rest = record {
     follows = λ r V c l. refl;
     complete = λ named V c e h. inl (record { same = refl; types = with_type V n (value_of c.chosen key); on = goes V c e; hidden_too = (tt, tt) });
     first = λ named k V c e h. first_none k c;
+    stops = none_stop;
   };
   means = record { open_node = opened; is = λ V ch loose g. g.given.0.is };
 }
@@ -117,6 +121,7 @@ node_made {F} {scope} {G} {a} {b} {s} {t} {n} {c} build r opened made rest build
     hidden_too = (tt, tt);
   });
   first = λ named k V x e h. first_none k x;
+  stops = none_stop;
 }
   where
     older : (V : Types) (x : Typ) → SameAt a.nodes V (with_type V n x)
@@ -197,6 +202,7 @@ same_made {F} {scope} {G} {a} {m} {type} key free p = record {
   follows = λ r V c l. refl;
   complete = λ named. complete;
   first = λ named. first_one (λ c. same (value_of c.chosen key) (type c.chosen)) complete;
+  stops = none_stop;
 }
   where
     complete : (V : Types) (c : Context) → Enters F scope a G V c → AllHold c.kept (same (value_of c.chosen key) (type c.chosen) ∷ []) →

@@ -18,15 +18,17 @@ use Rattle.typing_conditions.proofs.Instances.{local_more}
 use Rattle.typing_conditions.proofs.Closing.{closed_loose, own_reopened, local_closed}
 use Rattle.typing_conditions.proofs.Bindings.{any_before, any_after}
 use Rattle.typing_conditions.proofs.Fresh.{reads_closed, fits_closed}
-use Rattle.typing_conditions.specs.Sights.{AreScopesIn, Sight, Letters, AreNodes, IsInside}
+use Rattle.typing_conditions.specs.Sights.{Report, AreScopesIn, Sight, Letters, AreNodes, IsInside}
 use Rattle.typing_conditions.specs.Frames.{Frame, Reaches, IsHeld, IsOpenAt, IsOpen, inner_frame, GoesIn}
 use Rattle.typing_conditions.specs.Meanings.{KnowsWritten}
 use Rattle.typing_conditions.specs.Steps.{OnlyLevel}
-use Rattle.typing_conditions.specs.Carrying.{Asks, Scope, HoldsWritten, Enters, Stays, Carried}
+use Rattle.typing_conditions.specs.Carrying.{Asks, Scope, HoldsWritten, Enters, Stays, Lasts, Stop, Carried}
 use Rattle.typing_conditions.specs.Hiding.{AreDone}
 use Rattle.typing_conditions.proofs.Meaning.{inside_longer, nodes_in}
 use Rattle.typing_conditions.proofs.Inward.{agrees_as, reached_inward, written_inward}
-use Rattle.typing_conditions.proofs.Hiding.{keeps_as, keeps_both, settles_as, placed_before, done_on}
+use Rattle.typing_conditions.specs.Judging.{Judgement}
+use Rattle.typing_conditions.proofs.Hiding.{keeps_as, keeps_both, settles_as, placed_before, done_on, copy_itself}
+use Rattle.typing_conditions.proofs.Stops.{lasts_both}
 
 -- What is done at the end: the level is the outer one again, and of the variables above it exactly those of these names are bound. The names are open nodes of the
 -- frame further in, and what is held for the outer level is of at most that level.
@@ -196,6 +198,7 @@ module _ {F : Frame} {scope : Scope} {asks : Asks} {a b c d : Sight} {J : Types}
     keeps = keeps_both (keeps_as l.only.noted l.only.scopes l.only.types) (keeps_both l.part.stays.keeps (keeps_as l.out.noted l.out.scopes l.out.types));
     written = λ x m e. l.out.written x ∙ l.part.stays.written x m (l.only.written x ∙ e);
     given = l.part.stays.given;
+    opens = l.part.stays.opens;
     inside = λ i. closed_inside (l.part.stays.inside (record {
       recorded = λ j k m e. subst (λ ns. IsNode ns m) (sym l.only.nodes) (i.recorded j k m (sym (l.only.types j k) ∙ e));
       written = λ x m e. subst (λ ns. IsNode ns m) (sym l.only.nodes) (i.written x m (sym (l.only.written x) ∙ e));
@@ -227,6 +230,57 @@ module _ {F : Frame} {scope : Scope} {asks : Asks} {a b c d : Sight} {J : Types}
     fits = subst (λ ns. Fits ns V) (sym l.only.nodes) e.fits;
     agrees = agrees_as a b l.only.types l.only.written e.agrees;
   }
+
+  -- what is there at the end of the group lasts when its names are closed
+  lasts_out : (L : Letters) → Lasts c L d L
+  lasts_out L = record {
+    longer = let (K, own_k, closes) = any_closing in let r = closes.len in omega arith;
+    loose = λ V h. let (K, own_k, closes) = any_closing in closed_loose c.nodes d.nodes K names F.level closes V h;
+    recorded = λ i k n e. l.out.types i k ∙ e;
+    written = λ y n e. l.out.written y ∙ e;
+    letters = λ k x e. inr (copy_itself L k x e);
+  }
+
+  -- A demand that was reported further in was so in the frame around.
+  stop_out : {L : Letters} {judged : List Judgement} {r : Report} → Stop I scope asks b G c L judged r → Stop F scope asks a G d L judged r
+  stop_out {L} {judged} {r} s = record {
+    state = s.state;
+    letters = s.letters;
+    found = s.found;
+    wanted = s.wanted;
+    names = s.names;
+    site = s.site;
+    before = s.before;
+    judged_so = s.judged_so;
+    shows = s.shows;
+    unbound = s.unbound;
+    up_to = record {
+      longer = let q : length b.nodes ≡ length a.nodes = ap length l.only.nodes in let m = s.up_to.longer in omega arith;
+      reads = λ V h. subst (λ ns. IsReading ns V) l.only.nodes (s.up_to.reads V h);
+      recorded = λ i k n e. s.up_to.recorded i k n (l.only.types i k ∙ e);
+      written = λ y n e. s.up_to.written y n (l.only.written y ∙ e);
+      given = s.up_to.given;
+      inside = λ i. s.up_to.inside (inside_there i);
+      sound = λ q. s.up_to.sound here;
+      bounds = λ q v h. s.up_to.bounds here v (subst (λ ns. is_bound ns v ≡ true) (sym l.only.nodes) h);
+      free = λ q k. s.up_to.free here (written_inward l.goes_in l.only l.raised k);
+    };
+    lasts = lasts_both s.lasts (lasts_out L);
+    enters = λ named V x e kept k t at u h.
+        let to = s.enters (λ y n f. named y n (l.out.written y ∙ f)) V x (enters V x e) kept k t at u h in
+        record { types = to.types; fits = to.fits; before = λ n lt. to.before n (let q : length b.nodes ≡ length a.nodes = ap length l.only.nodes in omega arith); agrees = to.agrees; nodes = to.nodes; asks = to.asks };
+    reads = λ q V x at. s.reads here V x (record { under = at.under; reads = at.reads; agrees = at.agrees; named = at.named; unbound = at.unbound; kept = at.kept; known = at.known });
+  }
+    where
+      here : Reaches I b
+      here = reached_inward l.goes_in l.only l.raised
+
+      inside_there : IsInside a G → IsInside b G
+      inside_there i = record {
+        recorded = λ j k m f. subst (λ ns. IsNode ns m) (sym l.only.nodes) (i.recorded j k m (sym (l.only.types j k) ∙ f));
+        written = λ y m f. subst (λ ns. IsNode ns m) (sym l.only.nodes) (i.written y m (sym (l.only.written y) ∙ f));
+        given = subst (AreNodes G) (sym l.only.nodes) i.given;
+      }
 
   -- A part that was typed one level further in, whose names are closed then, is typed at the outer level.
   pub carried_out : Carried F scope asks a G d H
@@ -279,6 +333,7 @@ module _ {F : Frame} {scope : Scope} {asks : Asks} {a b c d : Sight} {J : Types}
       | inr short ↦ inr short
     ];
     first = λ named k V x e h. l.part.first (named_there named) k V x (enters V x e) h;
+    stops = λ k r e kind. stop_out (l.part.stops k r e kind);
   }
     where
       named_there : HoldsWritten scope d → HoldsWritten scope c

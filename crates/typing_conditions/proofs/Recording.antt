@@ -7,7 +7,7 @@ use Rattle.type_model.specs.Types.{Typ}
 use Rattle.type_model.proofs.Applying.{eqb_same}
 use Rattle.signature_model.specs.Matching.{IsKnown}
 use Rattle.typing_laws.proofs.Bools.{no_yes, and_cases, and_both}
-use Rattle.typing_model.specs.Demands.{Condition, same, AllHold}
+use Rattle.typing_model.specs.Demands.{Condition, same, known, treated, AllHold}
 use Rattle.env_table.specs.declared.entries.Entry.{Entry}
 use Rattle.typing_model.specs.Contexts.{Choice, Context, tell, tell_typed}
 use Rattle.type_nodes.specs.Nodes.{IsNode}
@@ -21,14 +21,16 @@ use Rattle.typing_conditions.specs.Frames.{Frame, Reaches}
 use Rattle.typing_conditions.specs.Seeing.{StandsFor, IsSeen}
 use Rattle.typing_conditions.specs.Judging.{judgements, Follows, StartsWith, FallsShort, TellAll, Meets}
 use Rattle.typing_conditions.specs.Steps.{Records}
-use Rattle.typing_conditions.specs.Carrying.{Asks, Scope, HoldsWritten, Enters, ReadsOff, SeesScope, GoesOn, Stays, AreHidden, Continues, Carried, CarriedTo, EndsAs}
+use Rattle.typing_conditions.specs.Carrying.{Asks, Scope, HoldsWritten, Enters, ReadsOff, SeesScope, GoesOn, AreCopied, Stays, AreStops, AreHidden, Continues, Carried, CarriedTo, EndsAs}
 use Rattle.typing_conditions.proofs.Judged.{hold_both, hold_left, hold_right, judged_both, given_left, given_right, given_both, tell_both, seen_both, seen_none, start_none, follows_both, follows_silent, starts_all}
 use Rattle.typing_conditions.proofs.Stays.{stays_trans, stays_closed, agrees_before, named_before, bounds_before}
 use Rattle.typing_conditions.proofs.Framing.{open_on, reaches_same, written_next}
 use Rattle.typing_conditions.proofs.Carried.{Decides, hidden_more, take_none, less_or_more}
 use Rattle.typing_conditions.proofs.First.{starts_none}
 use Rattle.typing_conditions.specs.Hiding.{Keeps, marked, is_sure, Owns, NotesRow}
-use Rattle.typing_conditions.proofs.Hiding.{one_some, placed_before, settles_on, settles_closed, given_unmarked, owns_sure, sure_marked}
+use Rattle.typing_conditions.proofs.Hiding.{one_some, placed_before, settles_on, settles_closed, given_unmarked, marked_copy, copy_itself, copy_first, copy_second, owns_sure, sure_marked}
+use Rattle.typing_conditions.proofs.Copies.{copied_same, copied_after, copied_parts}
+use Rattle.typing_conditions.proofs.Stops.{lasts_same, stop_end, stop_silent, stop_cons, treated_silent, known_silent}
 
 -- what is recorded now is the new node, or was recorded before
 pub now_or_before : {a b : Sight} {p m : ℕ} {env : List Entry} → Records a b p m env → (i q x : ℕ) → b.types i q ≡ Some x → ((a.item ≡ i) × (p ≡ q) × (m ≡ x)) ⊎ (a.types i q ≡ Some x)
@@ -80,6 +82,7 @@ records_stay {F} {G} {a} {b} {p} {m} r node = record {
   keeps = records_keep r;
   written = λ x n e. r.written x ∙ e;
   given = λ V ch h. h;
+  opens = copied_same G;
   inside = λ h. record {
     recorded = λ i q x e. subst (λ ns. IsNode ns x) (sym r.nodes) (elim (now_or_before r i q x e) [ inl (_, _, one) ↦ subst (IsNode a.nodes) one node | inr f ↦ h.recorded i q x f ]);
     written = λ x n e. subst (λ ns. IsNode ns n) (sym r.nodes) (h.written x n (sym (r.written x) ∙ e));
@@ -146,6 +149,7 @@ row_recorded {F} {scope} {asks} {ends} {type} {a} {b} {d} {G} own n {p} {m} {env
     follows = follows;
     complete = complete;
     first = first;
+    stops = stops;
   };
   means = record { open_node = open_on (recorded (own ++ G)) row.means.open_node; is = λ V ch loose g. at_node V ch g };
 }
@@ -162,6 +166,16 @@ row_recorded {F} {scope} {asks} {ends} {type} {a} {b} {d} {G} own n {p} {m} {env
 
     recorded : (H : Letters) → Stays F b H d H
     recorded H = records_stay r row.means.open_node.inside
+
+    -- what was open or hidden is hidden then, or open still
+    copies : AreCopied (it.hidden ++ (own ++ G)) ((it.hidden ++ mine) ++ G)
+    copies = copied_parts it.hidden (own ++ G) ((it.hidden ++ mine) ++ G) (λ k x e. copy_first (it.hidden ++ mine) G (copy_first it.hidden mine (copy_itself it.hidden k x e)))
+        (copied_parts own G ((it.hidden ++ mine) ++ G) (λ k x e. copy_first (it.hidden ++ mine) G (copy_second it.hidden mine (marked_copy test own k x e))) (copied_after (it.hidden ++ mine) G))
+
+    stops : AreStops F scope (λ c. tell_typed n c ++ (asks c ++ ends c)) a G d ((it.hidden ++ mine) ++ G) it.judged it.told
+    stops k s e kind =
+        let here = stop_silent ends it (recorded (own ++ G)) (it.stops k s e kind) in
+        stop_cons (λ c. treated n c.env) (treated_silent n) (stop_cons (λ c. known (c.chosen.type_at n)) (known_silent n) (stop_end (lasts_same d (it.hidden ++ (own ++ G)) ((it.hidden ++ mine) ++ G) copies) here))
 
     at_node : {H : Letters} (V : Types) (ch : Choice) → Agrees F.owner d H V ch → ch.type_at n ≡ V m
     at_node V ch g = ap ch.type_at (sym number) ∙ g.recorded b.item p m (here_now r)
@@ -304,6 +318,7 @@ told_at {F} {scope} {asks} {a} {b} {G} {H} n {i} {p} {env} number it there sees 
     | inr short ↦ inr short
   ];
   first = first;
+  stops = λ k s e kind. stop_cons (λ c. treated n c.env) (treated_silent n) (it.stops k s e kind);
 }
   where
     first : HoldsWritten scope b → (k : ℕ) (V : Types) (c : Context) → Enters F scope a G V c → AllHold c.kept (take k (tell n c ++ asks c)) → Decides c it.judged (take k (tell n c ++ asks c))

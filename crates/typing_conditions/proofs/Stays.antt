@@ -11,6 +11,7 @@ use Rattle.typing_conditions.specs.Frames.{Frame, Reaches}
 use Rattle.typing_conditions.specs.Carrying.{Scope, HoldsWritten, HoldsUnbound, Stays, GoesOn, Enters}
 use Rattle.typing_conditions.proofs.Judged.{nodes_right}
 use Rattle.typing_conditions.proofs.Hiding.{keeps_same, keeps_both}
+use Rattle.typing_conditions.proofs.Copies.{copied_same, copied_both, copied_more}
 
 -- where nothing is done everything stays
 pub stays_refl : {F : Frame} {a : Sight} {G : Letters} → Stays F a G a G
@@ -25,6 +26,7 @@ stays_refl {F} {a} {G} = record {
   keeps = keeps_same;
   written = λ x m h. h;
   given = λ V ch h. h;
+  opens = copied_same G;
   inside = λ h. h;
   aloud = refl;
   item = refl;
@@ -34,7 +36,7 @@ stays_refl {F} {a} {G} = record {
 
 -- one call after another
 pub stays_trans : {F : Frame} {a b c : Sight} {G H K : Letters} → Stays F a G b H → Stays F b H c K → Stays F a G c K
-stays_trans {F} {a} {b} {c} p q = record {
+stays_trans {F} {a} {b} {c} {G} {H} {K} p q = record {
   longer = let l = p.longer in let m = q.longer in omega arith;
   loose = λ V h. p.loose V (q.loose V h);
   reads = λ V h. p.reads V (q.reads V h);
@@ -47,6 +49,7 @@ stays_trans {F} {a} {b} {c} p q = record {
   keeps = keeps_both p.keeps q.keeps;
   written = λ x m h. q.written x m (p.written x m h);
   given = λ V ch h. p.given V ch (q.given V ch h);
+  opens = copied_both G H K p.opens q.opens;
   inside = λ h. q.inside (p.inside h);
   aloud = q.aloud ∙ p.aloud;
   item = q.item ∙ p.item;
@@ -67,6 +70,7 @@ stays_closed {F} {a} {b} own {G} s = record {
   keeps = s.keeps;
   written = s.written;
   given = λ V ch h. h;
+  opens = copied_same G;
   inside = λ i. let j = s.inside i in record { recorded = j.recorded; written = j.written; given = nodes_right own G b.nodes j.given };
   aloud = s.aloud;
   item = s.item;
@@ -115,6 +119,7 @@ stays_opened {F} {a} {G} key {m} node = record {
   keeps = keeps_same;
   written = λ x n h. h;
   given = λ V ch h. h.1;
+  opens = copied_more (key, m) G;
   inside = λ i. record { recorded = i.recorded; written = i.written; given = (node, i.given) };
   aloud = refl;
   item = refl;

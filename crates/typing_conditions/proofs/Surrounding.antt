@@ -1,9 +1,10 @@
 -- What a part is typed among, after a call and with a further name.
-use Rattle.std.proofs.Common.{◌≡◌, ℕ, zero, suc, ◌≤◌, true, List, ◌∷◌, Option, Some, refl, sym, subst, arith, []}
+use Rattle.std.proofs.Common.{Bool, ◌==◌, ◌≡◌, ℕ, zero, suc, ◌≤◌, true, List, ◌∷◌, Option, Some, refl, sym, subst, arith, []}
 use Rattle.std.specs.Prelude.{slice_get}
 use Rattle.type_model.specs.Types.{Typ, occurs}
 use Rattle.type_model.specs.Types.{Typ as type}
 use Rattle.type_model.specs.Schemes.{Scheme}
+use Rattle.type_model.proofs.Applying.{eqb_same}
 use Rattle.signature_model.specs.Declarations as rules
 use Rattle.signature_model.specs.Declarations.{Name}
 use Rattle.signature_model.specs.Entries.{Environment, entry, a_value}
@@ -31,7 +32,7 @@ use Rattle.typing_conditions.proofs.Standing.{more_in, stands_fits_on, stands_re
 use Rattle.typing_conditions.specs.Sights.{Sight, Letters, Agrees}
 use Rattle.typing_conditions.specs.Frames.{Frame, Reaches, IsRoot}
 use Rattle.typing_conditions.specs.Meanings.{Means, KnowsFixed, KnowsWritten}
-use Rattle.typing_conditions.specs.Carrying.{Scope, SeesScope, Stays}
+use Rattle.typing_conditions.specs.Carrying.{Scope, with_own, at_node, SeesScope, Stays}
 use Rattle.typing_conditions.specs.Surroundings.{Declared, IsSteady, Surrounds, with_one, IsEntry}
 use Rattle.typing_conditions.proofs.Stays.{agrees_before, named_before, bounds_before}
 use Rattle.typing_conditions.proofs.Framing.{root_on}
@@ -166,3 +167,34 @@ surrounds_named {D} {F} {a} {G} {env} {scope} {type} {e} {x} {n} place is p know
         low_as : (J : Types) → IsOwn a.nodes J → (v l o : ℕ) → occurs v (J n.0) ≡ true → slice_get a.nodes v ≡ Some (Var l o) → l ≤ F.level
         low_as J own v l o h e = let low = p.open_node.free J own v h in let s : l ≡ low.level = same_node a.nodes v l o low.level low.scope e low.at in let y = low.low in omega arith
     are_roots (suc k) r f = at.are_roots k r f
+
+-- The same of the scope in which the demands of these nodes are made.
+pub surrounds_with : {D : Declared} {F : Frame} {a : Sight} {G : Letters} {env : List Entry} {scope : Scope} (own : ℕ → Bool) → Surrounds D F a G env scope → Surrounds D F a G env (with_own own scope)
+surrounds_with own at = record {
+  reached = at.reached;
+  inside = at.inside;
+  fixed = at.fixed;
+  written = at.written;
+  item = at.item;
+  roots = at.roots;
+  names = at.names;
+  apart = at.apart;
+  steady = at.steady;
+  are_roots = at.are_roots;
+  covered = at.covered;
+  known = at.known;
+  reads = at.reads;
+  fits = at.fits;
+}
+
+-- and of that in which those of this node are
+pub surrounds_at : {D : Declared} {F : Frame} {a : Sight} {G : Letters} {env : List Entry} {scope : Scope} (n : ℕ) → Surrounds D F a G env scope → Surrounds D F a G env (at_node n scope)
+surrounds_at n at = surrounds_with (λ m. n == m) at
+
+-- a node's demands are made there
+pub own_node : (n : ℕ) → (n == n) ≡ true
+own_node n = eqb_same n
+
+-- the names stand for those of the scope after a call
+pub sees_on : {F : Frame} (scope : Scope) {a b : Sight} {G H : Letters} {env : List Entry} → Stays F a G b H → Reaches F a → SeesScope F scope a G env → SeesScope F scope b H env
+sees_on scope s r sees V ch reads agrees named unbound = sees V ch (s.reads V reads) (agrees_before s agrees) (named_before scope s named) (bounds_before scope ch s r unbound)

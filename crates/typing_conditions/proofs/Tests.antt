@@ -4,6 +4,8 @@ use Rattle.tree_model.specs.Trees.{Place}
 use Rattle.signature_model.specs.Entries.{Environment}
 use Rattle.signature_model.specs.Signatures.{Signature}
 use Rattle.typing_model.specs.Demands.{Site, test, closes, Complaint, demand, AllHold}
+use Rattle.typing_model.specs.Demands as complaint
+use Rattle.typing_model.specs.Typings.{no_choice}
 use Rattle.typing_model.specs.Contexts.{Context}
 use Rattle.typing_model.specs.Messages.{complaint_text}
 use Rattle.type_nodes.specs.Readings.{Types}
@@ -17,6 +19,7 @@ use Rattle.typing_conditions.specs.Carrying.{Scope, IsUnder, Enters, Continues, 
 use Rattle.typing_conditions.proofs.First.{first_one}
 use Rattle.typing_conditions.proofs.Equals.{reports_stay, goes_as, judged_as, falls_short, not_both}
 use Rattle.typing_conditions.proofs.Hiding.{settles_none, none_doubtful}
+use Rattle.typing_conditions.proofs.Stops.{none_stop, other_stop}
 
 -- what a test is in the contexts of a scope: whether it holds, where it is reported, as which kind of fault, and in which words
 pub record TestIs (scope : Scope) (complaint : Context → Complaint) (holds : Context → Bool) (at : Context → Place) (v : Bool) (place : Place) (kind : FaultKind) (message : List ℕ) : Type 0 where
@@ -24,6 +27,28 @@ pub record TestIs (scope : Scope) (complaint : Context → Complaint) (holds : C
   pub here : (c : Context) → IsUnder scope c → at c ≡ place
   pub is_kind : (c : Context) → IsUnder scope c → kind_of (complaint c) ≡ kind
   pub says : (c : Context) → IsUnder scope c → complaint_text (complaint c) ≡ message
+
+-- a context of a scope
+abbrev pub context_in : Scope → Context
+context_in scope = record { env = scope.env no_choice; variables = scope.variables; held = scope.held; kept = λ s. false; chosen = no_choice }
+
+pub in_scope : (scope : Scope) → IsUnder scope (context_in scope)
+in_scope scope = record { env = refl; variables = refl; held = refl }
+
+-- no complaint is that two types differ
+pub other_kind : (x : Complaint) → kind_of x ≡ fault.Equal → ⊥
+other_kind (complaint.unbound w x) e = absurd (cc)
+other_kind (complaint.arity x n m) e = absurd (cc)
+other_kind complaint.no_label e = absurd (cc)
+other_kind (complaint.not_mutable x) e = absurd (cc)
+other_kind (complaint.incomplete x) e = absurd (cc)
+other_kind (complaint.twice x) e = absurd (cc)
+other_kind (complaint.one_side x) e = absurd (cc)
+other_kind complaint.too_large e = absurd (cc)
+other_kind (complaint.cyclic x) e = absurd (cc)
+other_kind (complaint.differs x) e = absurd (cc)
+other_kind complaint.no_functor e = absurd (cc)
+other_kind (complaint.no_abstract_type x n) e = absurd (cc)
 
 -- a test of names that holds or doesn't, whatever the types
 unfoldable pub test_judged : {F : Frame} {scope : Scope} {G : Letters} {complaint : Context → Complaint} {holds : Context → Bool} {at : Context → Place} {kind : FaultKind} {message : List ℕ} {place : Place} {a b : Sight} (s : Site) (v : Bool) →
@@ -47,6 +72,7 @@ test_judged {F} {scope} {G} {complaint} {holds} {at} {kind} {message} {place} {a
   follows = λ r V c l. (refl, λ k. refl);
   complete = λ named V c e h. by V c e (c.kept s) refl;
   first = λ named. first_one (λ c. demand s (at c) (test (complaint c) (holds c))) (λ V c e h. by V c e (c.kept s) refl);
+  stops = none_stop;
 }
   where
     by : (V : Types) (c : Context) → Enters F scope a G V c → (t : Bool) → c.kept s ≡ t →
@@ -73,6 +99,7 @@ test_judged {F} {scope} {G} {complaint} {holds} {at} {kind} {message} {place} {a
   follows = λ r V c l. (refl, λ k. refl);
   complete = λ named V c e h. by V c e h.0 (c.kept s) refl;
   first = λ named. first_one (λ c. demand s (at c) (test (complaint c) (holds c))) (λ V c e h. by V c e h.0 (c.kept s) refl);
+  stops = other_stop tells.report (λ e. other_kind (complaint (context_in scope)) (is.is_kind (context_in scope) (in_scope scope) ∙ sym tells.is_kind ∙ e));
 }
   where
     by : (V : Types) (c : Context) → Enters F scope a G V c → (c.kept s ≡ true → holds c ≡ true) → (t : Bool) → c.kept s ≡ t →
@@ -116,6 +143,7 @@ closing_judged {F} {scope} {G} {env} {body} {a} {b} s at message v rest tells = 
       follows = λ r V c l. (refl, λ k. refl);
       complete = λ named. complete true;
       first = λ named. first_one (λ c. demand s at (closes (env c) (body c))) (complete true);
+      stops = none_stop;
     }
     by false tells = record {
       stays = reports_stay rest;
@@ -136,4 +164,5 @@ closing_judged {F} {scope} {G} {env} {body} {a} {b} s at message v rest tells = 
       follows = λ r V c l. (refl, λ k. refl);
       complete = λ named. complete false;
       first = λ named. first_one (λ c. demand s at (closes (env c) (body c))) (complete false);
+      stops = other_stop tells.report (λ e. absurd (let same : fault.Closing ≡ fault.Equal = sym tells.is_kind ∙ e in cc));
     }

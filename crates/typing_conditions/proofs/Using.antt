@@ -38,6 +38,8 @@ use Rattle.typing_conditions.proofs.First.{starts_none}
 use Rattle.typing_conditions.proofs.Making.{loose_before, reading_before}
 use Rattle.typing_conditions.proofs.Meaning.{agrees_same, inside_longer}
 use Rattle.typing_conditions.proofs.Hiding.{keeps_as, settles_none, none_doubtful}
+use Rattle.typing_conditions.proofs.Copies.{copied_more}
+use Rattle.typing_conditions.proofs.Stops.{none_stop}
 
 -- the scheme of the value that a path finds, if it finds one
 abbrev pub scheme_found : Environment → List Name → Name → Option Scheme
@@ -108,6 +110,7 @@ name_used {D} {F} {scope} {G} {env} {a} {b} {ms} {x} {m} key free at it = record
     follows = λ r V c l. follows_silent c.kept (used_if (scheme_found c.env ms x) (value_of c.chosen key)) (used_silent c.kept (scheme_found c.env ms x) (value_of c.chosen key));
     complete = λ named V c e h. inl (complete named V c e h);
     first = λ named k V c e h. inl (subst (StartsWith []) (sym (used_silent_first c.kept k (scheme_found c.env ms x) (value_of c.chosen key))) (starts_none []));
+    stops = none_stop;
   };
   means = record { open_node = opened; is = λ V ch loose g. g.given.0.is };
 }
@@ -136,6 +139,7 @@ name_used {D} {F} {scope} {G} {env} {a} {b} {ms} {x} {m} key free at it = record
       keeps = keeps_as it.rest.noted it.rest.scopes it.rest.types;
       written = λ y k e. it.rest.written y ∙ e;
       given = λ V ch h. h.1;
+      opens = copied_more (key, m) G;
       inside = λ h. let i = inside_longer a b it.rest.types it.rest.written it.taken.extends.longer h in record { recorded = i.recorded; written = i.written; given = (opened.inside, i.given) };
       aloud = it.rest.aloud;
       item = it.rest.item;

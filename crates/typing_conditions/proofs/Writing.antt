@@ -29,6 +29,8 @@ use Rattle.typing_conditions.proofs.First.{first_none, nothing_met}
 use Rattle.typing_conditions.proofs.Making.{with_type, at_own, at_older, in_any_scope, makes_extends, made_here, loose_before, reading_before, fits_made}
 use Rattle.typing_conditions.proofs.Meaning.{given_same, nodes_in}
 use Rattle.typing_conditions.proofs.Hiding.{keeps_as, settles_none, none_doubtful}
+use Rattle.typing_conditions.proofs.Copies.{copied_same}
+use Rattle.typing_conditions.proofs.Stops.{none_stop}
 
 low_level : (l m : ℕ) → min l 1 ≤ m → m < l → 1 ≤ m
 low_level l m le lt = grind arith
@@ -120,6 +122,7 @@ module _ (F : Frame) (a b : Sight) (s t : List Change) (n : ℕ) (x : Name) (r :
       follows = λ r V c l. refl;
       complete = λ named V c e h. inl (record { same = refl; types = with_type V n (c.chosen.written F.owner x); on = goes V c e; hidden_too = (tt, tt) });
       first = λ named k V c e h. first_none k c;
+      stops = none_stop;
     };
     means = record { open_node = open_lower (min_left F.level 1) written_open; is = λ V ch loose g. g.written x n w.now };
   }
@@ -143,6 +146,7 @@ module _ (F : Frame) (a b : Sight) (s t : List Change) (n : ℕ) (x : Name) (r :
         keeps = keeps_as w.noted w.scopes w.types;
         written = w.before;
         given = λ V ch h. h;
+        opens = copied_same G;
         inside = λ h. record {
           recorded = λ i k y e. let j = h.recorded i k y (sym (w.types i k) ∙ e) in let l = extends.longer in omega arith;
           written = λ y m e. elim (w.others y m e) [ inl (_, same) ↦ subst (λ j. j < length b.nodes) (sym same) written_open.inside | inr f ↦ (let j = h.written y m f in let l = extends.longer in omega arith) ];

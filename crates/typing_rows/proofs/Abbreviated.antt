@@ -43,7 +43,7 @@ use Rattle.typing_rows.specs.Declaring.{applied_by, AppliedAs, AppliesTo}
 use Rattle.typing_rows.proofs.Composed.{as_many}
 use Rattle.typing_rows.proofs.Parameters.{is_parameter, last_is_more, parameter_at, argument_means, same_there}
 use Rattle.typing_steps.proofs.Used.{UsedWith, key_by, root_used}
-use Rattle.typing_rows.proofs.Filled.{reads_tuple, types_same, tuple_is, tuple_means, JoinsEach, each_joined, each_alike}
+use Rattle.typing_rows.proofs.Filled.{each_reports, reads_tuple, types_same, tuple_is, tuple_means, JoinsEach, each_joined, each_alike}
 use Rattle.typing_rows.proofs.Declared.{node_at, argument_at, parameters_used}
 
 -- types with one more behind them, as a list
@@ -304,7 +304,7 @@ module _ (a b d : Parts) (decl : Declaration) (tup x : ℕ) (xs : List ℕ) (m :
 
     pub filled_applied : AppliedAs names F scope (sight a) G (sight d) n ns (type_of e) m
     filled_applied = elim (true_or_false test) [
-      | inl h ↦ record { letters = []; typed = record { carried = carried_dropped uses.letters (implied h) whole; means = means_dropped uses.letters (implied h) means }; of_row = λ plain. no_row n }
+      | inl h ↦ record { letters = []; typed = record { carried = carried_dropped uses.letters (implied h) whole (each_reports (sight b) (sight d) split.front args filled_so.0 ∙ (only_nodes a b rest).reports); means = means_dropped uses.letters (implied h) means }; of_row = λ plain. no_row n }
       | inr h ↦ record { letters = uses.letters; typed = record { carried = whole; means = means }; of_row = λ plain. absurd (no_yes (sym h ∙ all_parameters plain)) }
     ]
 

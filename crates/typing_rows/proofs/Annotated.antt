@@ -50,12 +50,12 @@ grouped xs ys zs us = ap (λ rest. xs ++ rest) (append_assoc ys zs us) ∙ sym (
 pub annotated_typed : (a b d : Parts) (env : List Entry) (n : ℕ) (at place : Place) (t : Tree) (o : Numbered) (found wanted : ℕ) → IsFormed n t → row_of t ≡ eparen_row → first_in n t 3 ≡ Some o →
     TypesTo a b env (λ c. (expression_of a.item (filled_in n t 1)).typed c) (λ ch. ch.type_at (expression_of a.item (filled_in n t 1)).node) found → Goes a b → (expression_of a.item (filled_in n t 1)).at ≡ place → Annotates b d env (type_of b.item o) place found wanted →
     TypesRow a d env (λ c. (row_expression a.item n at t).typed c) (number_of a.item n) wanted
-annotated_typed a b d env n at place t o found wanted formed row some typed goes here written = λ aloud F scope G s.
+annotated_typed a b d env n at place t o found wanted formed row some typed goes here written = λ aloud F scope G its s.
     let m = number_of a.item n in
     let e = expression_of a.item (filled_in n t 1) in
     let w = type_of a.item o in
     let x = typed aloud F scope G s in
-    let y = subst (λ i. Annotates b d env (type_of i o) place found wanted) goes.item written (ap is_aloud goes.telling ∙ aloud) F scope G m 0 (λ ch. ch.type_at e.node) (surrounds_on x.carried.stays s) x.means in
+    let y = subst (λ i. Annotates b d env (type_of i o) place found wanted) goes.item written (ap is_aloud goes.telling ∙ aloud) F scope G m 0 (λ ch. ch.type_at e.node) its (surrounds_on x.carried.stays s) x.means in
     let z = subst (λ p. ReadAs F scope (λ c. w.read c ++ ask m 0 p (equal (type_at c e.node) (type_at c w.node))) (sight b) G (sight d) w.node wanted) (sym here) y in
     row_as (λ c. grouped (e.typed c) (w.read c) (has_type c m 0 e (type_at c w.node)) (is_of c m (type_at c w.node)) ∙ ap (λ x. x.typed c) (sym (annotated_term a.item n at t o formed row some)))
     (row_after x.carried (row_written (λ c. w.read c ++ has_type c m 0 e (type_at c w.node)) w z (λ c. refl)))

@@ -85,23 +85,23 @@ found_as c n qs None v h = by (is_kept c n 0) h
 found_as c n qs (Some t) v h = h
 
 -- the argument of a constructor that is known has the declared type
-argument_known : (b d : Parts) (env : List Entry) (e : Expression) (n head : ℕ) (takes : Option Typ) (argument : Option ℕ) {F : Frame} {scope : Scope} {H : Letters} → is_aloud b.telling ≡ true → Surrounds as_declared F (sight b) H env scope →
+argument_known : (b d : Parts) (env : List Entry) (e : Expression) (n head : ℕ) (takes : Option Typ) (argument : Option ℕ) {F : Frame} {scope : Scope} {H : Letters} → is_aloud b.telling ≡ true → scope.own n ≡ true → Surrounds as_declared F (sight b) H env scope →
     TakesAs F (sight b) H head takes argument → TypesAsIf b d env e argument →
     Carried F scope (λ c. e.typed c ++ argument_has n 2 e.at (type_at c e.node) (option_map (λ t. used_by head t c.chosen) takes)) (sight b) H (sight d) H
-argument_known b d env e n head None None {F} {scope} {H} aloud names has typed = typed aloud F scope H names
-argument_known b d env e n head (Some t) (Some m) {F} {scope} {H} aloud names has typed = typed aloud F scope H n 2 (used_by head t) names has
-argument_known b d env e n head None (Some m) aloud names has typed = absurd has
-argument_known b d env e n head (Some t) None aloud names has typed = absurd has
+argument_known b d env e n head None None {F} {scope} {H} aloud its names has typed = typed aloud F scope H names
+argument_known b d env e n head (Some t) (Some m) {F} {scope} {H} aloud its names has typed = typed aloud F scope H n 2 (used_by head t) its names has
+argument_known b d env e n head None (Some m) aloud its names has typed = absurd has
+argument_known b d env e n head (Some t) None aloud its names has typed = absurd has
 
 -- A constructor with its first argument: its use, the argument, and the record of its node.
 pub head_typed : (a b d f : Parts) (env : List Entry) (n head number : ℕ) (qs : List Tok) (last : Option Tok) (known : Bool) (e : Expression) (m : ℕ) (argument : Option ℕ) → TypesConstructor a b env (record { qualifiers = qs; last = last }) 1 known m argument → Goes a b →
     TypesAsIf b d env e argument → Goes b d → number_in d.item number ≡ head → (is_aloud d.telling ≡ true → Records (sight d) (sight f) number m env) → TypesHead a f env n head (record { qualifiers = qs; last = last }) known e m
 unfolding head_noted carried_kept own_recorded carried_after carried_as
-head_typed a b d f env n head number qs last true e m argument typed goes argued goes' place records aloud F scope G names =
+head_typed a b d f env n head number qs last true e m argument typed goes argued goes' place records aloud F scope G its names =
     let p : Written = record { qualifiers = qs; last = last } in
     let k = typed aloud F scope G n head names in
     let loud : is_aloud b.telling ≡ true = ap is_aloud goes.telling ∙ aloud in
-    let x = argument_known b d env e n head k.building.argument argument loud (surrounds_on k.carried.stays names) k.takes argued in
+    let x = argument_known b d env e n head k.building.argument argument loud its (surrounds_on k.carried.stays names) k.takes argued in
     let y = means_on x.stays k.builds in
     let z = carried_trans x (same_made (own head) (λ t. tt) y) in
     let behind = carried_after k.carried (λ V c loose under agrees named kept. ap (behind_head c n head e) (ap (λ v. if v then building_in c.env p else None) (k.kept c kept) ∙ k.finds V c loose under agrees named)) z in
@@ -115,7 +115,7 @@ head_typed a b d f env n head number qs last true e m argument typed goes argued
       found = λ V c loose under agrees named kept. found_as c n qs last true
           (ap is_some (ap (λ v. if v then building_in c.env p else None) (k.kept c (kept_left c.kept k.carried.judged z.judged kept)) ∙ k.finds V c loose under agrees named));
     }
-head_typed a b d f env n head number qs last false e m argument typed goes argued goes' place records aloud F scope G names =
+head_typed a b d f env n head number qs last false e m argument typed goes argued goes' place records aloud F scope G its names =
     let p : Written = record { qualifiers = qs; last = last } in
     let k = typed.1 aloud F scope G n (own head) (λ t. tt) names in
     let loud : is_aloud b.telling ≡ true = ap is_aloud goes.telling ∙ aloud in
@@ -134,15 +134,15 @@ head_typed a b d f env n head number qs last false e m argument typed goes argue
 
 -- the arguments after the first one of a constructor that is known
 pub later_known : (a b : Parts) (env : List Entry) (at : Place) (es : List Expression) (head m : ℕ) → TypesGiven a b env at es head m → TypesLater a b env true at es head m
-later_known a b env at es head m given aloud F scope G n h names has = applied_row [] (below_none n 0) (record { carried = carried_refl; means = has }) (given aloud F scope G n 3 0 h names has)
+later_known a b env at es head m given aloud F scope G n h its names has = applied_row [] (below_none n 0) (record { carried = carried_refl; means = has }) (given aloud F scope G n 3 0 h its names has)
 
 -- those of one that isn't known
 pub later_unknown : (a b d : Parts) (env : List Entry) (at : Place) (es : List Expression) (head m : ℕ) → TypesEach a b env es → Goes a b → EndsUnknown b d es head m → TypesLater a d env false at es head m
-later_unknown a b d env at [] head m each goes ends aloud F scope G n h names has =
+later_unknown a b d env at [] head m each goes ends aloud F scope G n h its names has =
     let x = each aloud F scope G names in
     subst (λ q. TypesLater a d env false at [] head q) (sym ends.1) (subst (λ q. TypesLater a q env false at [] head head) (sym ends.0)
-    (λ aloud F scope G n h names has. let x = each aloud F scope G names in row_of_type (λ c. []) h x (means_on x.stays has) (λ c. refl))) aloud F scope G n h names has
-later_unknown a b d env at (e ∷ es) head m each goes ends aloud F scope G n h names has = unoperated_typed a b d env (e ∷ es) n m each goes ends aloud F scope G names
+    (λ aloud F scope G n h its names has. let x = each aloud F scope G names in row_of_type (λ c. []) h x (means_on x.stays has) (λ c. refl))) aloud F scope G n h its names has
+later_unknown a b d env at (e ∷ es) head m each goes ends aloud F scope G n h its names has = unoperated_typed a b d env (e ∷ es) n m each goes ends aloud F scope G its names
 
 -- what is asked of these arguments, by whether the constructor is found
 behind_found : (c : Context) (n : ℕ) (head : Expression) (es : List Expression) (o : Option Built) (known : Bool) → is_some o ≡ known → later_asks known c n head.at (type_at c head.node) es ≡ behind_argument c n head es o
@@ -174,10 +174,10 @@ own_row {n = n} {m = m} letters asks x = record {
 -- A constructor with its arguments, as a row: its node's type is its own.
 pub constructed_typed : (a b d : Parts) (env : List Entry) (n : ℕ) (p : Written) (head e : Expression) (es : List Expression) (at : Place) (known : Bool) (ty m : ℕ) → head.at ≡ at → TypesHead a b env n head.node p known e ty → Goes a b → TypesLater b d env known at es ty m →
     TypesConstructed a d env n p head (e ∷ es) m
-constructed_typed a b d env n p head e es at known ty m place typed goes later aloud F scope G names =
-    let h = typed aloud F scope G names in
+constructed_typed a b d env n p head e es at known ty m place typed goes later aloud F scope G its names =
+    let h = typed aloud F scope G its names in
     let loud : is_aloud b.telling ≡ true = ap is_aloud goes.telling ∙ aloud in
-    let r = (subst (λ q. TypesLater b d env known q es ty m) (sym place) later) loud F scope (h.own ++ G) n (λ ch. ch.type_at head.node) (surrounds_on h.typed.carried.stays names) h.typed.means in
+    let r = (subst (λ q. TypesLater b d env known q es ty m) (sym place) later) loud F scope (h.own ++ G) n (λ ch. ch.type_at head.node) its (surrounds_on h.typed.carried.stays names) h.typed.means in
     let made = ends_made r.typed.means r.end in
     let both = carried_trans r.typed.carried made in
     let end = carried_as r.all both in
@@ -191,7 +191,7 @@ constructed_typed a b d env n p head e es at known ty m place typed goes later a
     (record { carried = whole; opened = r.typed.means.open_node; owns = owned }))
 
 -- an expression that has the type that may be wanted
-pub types_as_if : (a b d : Parts) (env : List Entry) (e : Expression) (at : Place) (found : ℕ) (wanted : Option NodeRef) → e.at ≡ at → TypesTo a b env (λ c. e.typed c) (λ ch. ch.type_at e.node) found → Goes a b → AsksEqualIf b d at found wanted →
+pub types_as_if : (a b d : Parts) (env : List Entry) (e : Expression) (at : Place) (found : ℕ) (wanted : Option NodeRef) → e.at ≡ at → TypesTo a b env (λ c. e.typed c) (λ ch. ch.type_at e.node) found → Goes a b → AsksEqualIf b d env at found wanted →
     TypesAsIf a d env e (option_map (λ (w : NodeRef). w.0) wanted)
 types_as_if a b d env e at found None place typed goes asked = λ aloud F scope G s.
     carried_as (λ c. sym (append-nil (e.typed c))) (subst (λ q. Carried F scope (λ c. e.typed c) (sight a) G (sight q) G) (sym asked) (typed aloud F scope G s).carried)
@@ -207,8 +207,8 @@ unfolding is_operand is_needed
 construction_typed a d env i n at t p m formed row form typed =
     let head = expression_of i (filled_in n t 0) in
     let there = filled_first n t 1 formed (ap (λ r. is_operand r 1) row) (ap (λ r. is_needed r 1) row) in
-    λ aloud F scope G s.
-    row_as (λ c. constructor_asked c (number_of i n) head (expressions_of i (operands_in n t 1)) p head.form form ∙ ap (λ e. e.typed c) (sym (application_term i n at t formed row))) (by (operands_in n t 1) there typed aloud F scope G s)
+    λ aloud F scope G its s.
+    row_as (λ c. constructor_asked c (number_of i n) head (expressions_of i (operands_in n t 1)) p head.form form ∙ ap (λ e. e.typed c) (sym (application_term i n at t formed row))) (by (operands_in n t 1) there typed aloud F scope G its s)
   where
     by : (os : List Numbered) → first_of os ≡ Some (filled_in n t 1) → TypesConstructed a d env (number_of i n) p (expression_of i (filled_in n t 0)) (expressions_of i os) m →
         TypesRow a d env (λ c. constructor_applied c (number_of i n) p (expression_of i (filled_in n t 0)) (expressions_of i os)) (number_of i n) m

@@ -56,7 +56,7 @@ alone_splits c n qs (Some t) = by (built_by c n (record { qualifiers = qs; last 
 -- A constructor without arguments, as a row: its node's type is its own.
 pub alone_typed : (a b : Parts) {env : List Entry} (qs : List Tok) (last : Option Tok) (known : Bool) (m : ℕ) (argument : Option ℕ) (n : ℕ) → TypesConstructor a b env (record { qualifiers = qs; last = last }) 0 known m argument →
     TypesRow a b env (λ c. constructor_alone c n (record { qualifiers = qs; last = last })) n m
-alone_typed a b {env} qs last true m argument n typed aloud F scope G names =
+alone_typed a b {env} qs last true m argument n typed aloud F scope G its names =
     let k = typed aloud F scope G n n names in
     record {
       own = (own n, m) ∷ k.letters;
@@ -72,7 +72,7 @@ alone_typed a b {env} qs last true m argument n typed aloud F scope G names =
       owns = λ is_known. owns_also (own n) refl refl (owns_row k.of_row);
       end = ends_own n;
     }
-alone_typed a b {env} qs last false m argument n typed aloud F scope G names =
+alone_typed a b {env} qs last false m argument n typed aloud F scope G its names =
     let k = typed.1 aloud F scope G n (own n) (λ t. tt) names in
     record {
       own = (own n, m) ∷ [];
@@ -95,8 +95,8 @@ constructor_term i n at t row = ap (λ q. expression_row q (number_of i n) at (p
 
 pub constructor_row : (a b : Parts) (env : List Entry) (i n : ℕ) (at : Place) (t : Tree) (negated : Bool) (m : ℕ) → row_of t ≡ econ_row → TypesRow a b env (λ c. constructor_alone c (number_of i n) (path_of (path_in t 9 0))) (number_of i n) m →
     TypesRow a b env (λ c. (under_minus negated (row_expression i n at t)).typed c) (number_of i n) m
-constructor_row a b env i n at t negated m row typed = λ aloud F scope G s.
-    row_as (λ c. under_as negated (row_expression i n at t) (constructor_expression (number_of i n) at (path_of (path_in t 9 0))) c (constructor_term i n at t row) refl) (typed aloud F scope G s)
+constructor_row a b env i n at t negated m row typed = λ aloud F scope G its s.
+    row_as (λ c. under_as negated (row_expression i n at t) (constructor_expression (number_of i n) at (path_of (path_in t 9 0))) c (constructor_term i n at t row) refl) (typed aloud F scope G its s)
 
 -- what a path asks that names a constructor
 record AsksConstructor (n : ℕ) (p : Written) (e : Expression) (c : Context) : Type 0 where
@@ -118,7 +118,7 @@ asks_constructor n at p c h = by p.last h
 -- M.A
 pub constructor_path_row : (a b : Parts) (env : List Entry) (i n : ℕ) (at : Place) (t : Tree) (negated : Bool) (m : ℕ) → row_of t ≡ epath_row → names_constructor (token_in t 1) ≡ true →
     TypesRow a b env (λ c. constructor_alone c (number_of i n) (path_of (path_in t 0 1))) (number_of i n) m → TypesRow a b env (λ c. (under_minus negated (row_expression i n at t)).typed c) (number_of i n) m
-constructor_path_row a b env i n at t negated m row names typed = λ aloud F scope G s.
+constructor_path_row a b env i n at t negated m row names typed = λ aloud F scope G its s.
     let p = path_of (path_in t 0 1) in
     let asks = λ (c : Context). asks_constructor (number_of i n) at p c names in
-    row_as (λ c. (asks c).typed ∙ under_as negated (row_expression i n at t) (path_expression (number_of i n) at p) c (path_term i n at t row) (asks c).same_under) (typed aloud F scope G s)
+    row_as (λ c. (asks c).typed ∙ under_as negated (row_expression i n at t) (path_expression (number_of i n) at p) c (path_term i n at t row) (asks c).same_under) (typed aloud F scope G its s)

@@ -26,7 +26,7 @@ use Rattle.typing_conditions.specs.Surroundings.{Surrounds}
 use Rattle.typing_conditions.proofs.Recording.{ends_same}
 use Rattle.typing_conditions.proofs.Carried.{owns_last, carried_refl, carried_trans, carried_as}
 use Rattle.typing_conditions.proofs.Meaning.{means_on, means_more, all_mean_on}
-use Rattle.typing_conditions.proofs.Surrounding.{surrounds_on}
+use Rattle.typing_conditions.proofs.Surrounding.{surrounds_on, surrounds_sees}
 use Rattle.typing_conditions.proofs.Hiding.{below_none, below_more, owns_none, owns_row}
 use Rattle.typing_steps.specs.States.{is_aloud, sight}
 use Rattle.typing_steps.specs.Typing.{as_declared, RowCarried, TypesRow, AsksEqual, TypesAny}
@@ -59,9 +59,9 @@ row_after {before = before} first row = record {
 -- the parts of a row and its end
 pub plain_typed : (a b d : Parts) (env : List Entry) (r : Row) (end : Context → ℕ → List Condition) (es : List Expression) (ms : List ℕ) (m n : ℕ) (asks : Asks) → ((c : Context) → parts_ask r 0 c n es ++ end c n ≡ asks c) → TypesParts a b env r es ms → Goes a b → EndsRow b d env end es ms m →
     TypesRow a d env asks n m
-plain_typed a b d env r end es ms m n asks is parts goes ends = λ aloud F scope G s.
-    let p = parts aloud F scope G n s in
-    row_as is (row_after p.carried (ends (ap is_aloud goes.telling ∙ aloud) F scope G n (surrounds_on p.carried.stays s) p.means))
+plain_typed a b d env r end es ms m n asks is parts goes ends = λ aloud F scope G its s.
+    let p = parts aloud F scope G n its s in
+    row_as is (row_after p.carried (ends (ap is_aloud goes.telling ∙ aloud) F scope G n its (surrounds_on p.carried.stays s) p.means))
 
 -- what is there is one
 one_some : {A : Type 0} (x y : A) → Some x ≡ Some y → x ≡ y
@@ -94,24 +94,24 @@ none_at (x ∷ es) (k ∷ ms) zero (one_means h hs) e = absurd (cc)
 none_at (x ∷ es) (k ∷ ms) (suc i) (one_means h hs) e = none_at es ms i hs e
 
 -- `has`: the part at a place has a type
-pub asks_at : (a b : Parts) (env : List Entry) (es : List Expression) (ms : List ℕ) (place found wanted : ℕ) (e : Expression) (at : Place) → slice_get es place ≡ Some e → slice_get ms place ≡ Some found → e.at ≡ at → AsksEqual a b at found wanted → AsksAt a b env es ms place wanted
-asks_at a b env es ms place found wanted e at here node is asked = λ aloud F scope G n k t s all has.
+pub asks_at : (a b : Parts) (env : List Entry) (es : List Expression) (ms : List ℕ) (place found wanted : ℕ) (e : Expression) (at : Place) → slice_get es place ≡ Some e → slice_get ms place ≡ Some found → e.at ≡ at → AsksEqual a b env at found wanted → AsksAt a b env es ms place wanted
+asks_at a b env es ms place found wanted e at here node is asked = λ aloud F scope G n k t its s all has.
     let r = reads_at es ms place found all node in
     let same : r.part ≡ e = one_some r.part e (sym r.here ∙ here) in
-    let z = asked aloud F scope G (site n k) (λ ch. ch.type_at e.node) t (subst (λ x. Means F (sight a) G (λ ch. ch.type_at x.node) found) same r.means) has in
+    let z = asked aloud F scope G (site n k) (λ ch. ch.type_at e.node) t its (surrounds_sees s) (subst (λ x. Means F (sight a) G (λ ch. ch.type_at x.node) found) same r.means) has in
     carried_as (λ c. ap (λ o. has_if c n k o (t c.chosen)) (sym here)) (subst (λ p. Carried F scope (λ c. ask n k p (equal (c.chosen.type_at e.node) (t c.chosen))) (sight a) G (sight b) G) (sym is) z)
 
 -- where there is no part, nothing is asked
 pub asks_none : (a : Parts) (env : List Entry) (es : List Expression) (ms : List ℕ) (place wanted : ℕ) → slice_get es place ≡ None → AsksAt a a env es ms place wanted
-asks_none a env es ms place wanted none = λ aloud F scope G n k t s all has. carried_as (λ c. ap (λ o. has_if c n k o (t c.chosen)) (sym none)) carried_refl
+asks_none a env es ms place wanted none = λ aloud F scope G n k t its s all has. carried_as (λ c. ap (λ o. has_if c n k o (t c.chosen)) (sym none)) carried_refl
 
 -- where there is no node for a place, there is no part
 pub asks_no_node : (a : Parts) (env : List Entry) (es : List Expression) (ms : List ℕ) (place wanted : ℕ) → slice_get ms place ≡ None → AsksAt a a env es ms place wanted
-asks_no_node a env es ms place wanted none = λ aloud F scope G n k t s all has. carried_as (λ c. ap (λ o. has_if c n k o (t c.chosen)) (sym (none_at es ms place all none))) carried_refl
+asks_no_node a env es ms place wanted none = λ aloud F scope G n k t its s all has. carried_as (λ c. ap (λ o. has_if c n k o (t c.chosen)) (sym (none_at es ms place all none))) carried_refl
 
 -- no later part yet
 pub later_none : (a : Parts) (env : List Entry) (es : List Expression) (ms : List ℕ) (wanted : ℕ) (left : List Expression) → left ≡ behind_first es → AsksLaterFirst a a env es ms wanted (behind_first es) left
-later_none a env es ms wanted left is = λ aloud F scope G n t s all has. record {
+later_none a env es ms wanted left is = λ aloud F scope G n t its s all has. record {
   done = λ c. [];
   k = 0;
   carried = carried_refl;
@@ -121,9 +121,9 @@ later_none a env es ms wanted left is = λ aloud F scope G n t s all has. record
 -- one later part more
 pub later_more : (a b d : Parts) (env : List Entry) (es : List Expression) (ms : List ℕ) (place wanted : ℕ) (all left rest : List Expression) (e : Expression) → left ≡ e ∷ rest → slice_get es place ≡ Some e → Goes a b → AsksLaterFirst a b env es ms wanted all left → AsksAt b d env es ms place wanted →
     AsksLaterFirst a d env es ms wanted all rest
-later_more a b d env es ms place wanted all left rest e split here goes first one = λ aloud F scope G n t s means has.
-    let p = first aloud F scope G n t s means has in
-    let q = one (ap is_aloud goes.telling ∙ aloud) F scope G n p.k t (surrounds_on p.carried.stays s) (all_mean_on p.carried.stays means) (means_on p.carried.stays has) in
+later_more a b d env es ms place wanted all left rest e split here goes first one = λ aloud F scope G n t its s means has.
+    let p = first aloud F scope G n t its s means has in
+    let q = one (ap is_aloud goes.telling ∙ aloud) F scope G n p.k t its (surrounds_on p.carried.stays s) (all_mean_on p.carried.stays means) (means_on p.carried.stays has) in
     record {
       done = λ c. p.done c ++ has_type c n p.k e (t c.chosen);
       k = p.k + 1;
@@ -133,65 +133,65 @@ later_more a b d env es ms place wanted all left rest e split here goes first on
 
 -- all later parts
 pub later_all : (a b : Parts) (env : List Entry) (es : List Expression) (ms : List ℕ) (wanted : ℕ) (left : List Expression) → left ≡ [] → AsksLaterFirst a b env es ms wanted (behind_first es) left → AsksLater a b env es ms wanted
-later_all a b env es ms wanted left none first = λ aloud F scope G n t s means has.
-    let p = first aloud F scope G n t s means has in
+later_all a b env es ms wanted left none first = λ aloud F scope G n t its s means has.
+    let p = first aloud F scope G n t its s means has in
     carried_as (λ c. sym (append-nil (p.done c)) ∙ ap (λ xs. p.done c ++ ask_all n p.k (each_has c (t c.chosen) xs)) (sym none) ∙ sym (p.asks c)) p.carried
 
 -- an end that has the type of a fixed node, or of a part, and asks nothing else
 pub ends_still : (a : Parts) (env : List Entry) (end : Context → ℕ → List Condition) (es : List Expression) (ms : List ℕ) (i m : ℕ) (e : Expression) → slice_get es i ≡ Some e → slice_get ms i ≡ Some m → ((c : Context) (n : ℕ) → is_of c n (type_at c e.node) ≡ end c n) → EndsRow a a env end es ms m
-ends_still a env end es ms i m e here node is = λ aloud F scope G n s all.
+ends_still a env end es ms i m e here node is = λ aloud F scope G n its s all.
     let r = reads_at es ms i m all node in
     let same : r.part ≡ e = one_some r.part e (sym r.here ∙ here) in
     row_of_type (λ c. []) (λ ch. ch.type_at e.node) carried_refl (subst (λ x. Means F (sight a) G (λ ch. ch.type_at x.node) m) same r.means) (λ c. is c n)
 
 -- an end that is a unit
 pub ends_unit : (a : Parts) (env : List Entry) (end : Context → ℕ → List Condition) (es : List Expression) (ms : List ℕ) → ((c : Context) (n : ℕ) → is_of c n unit_type ≡ end c n) → EndsRow a a env end es ms a.constants.unit.0
-ends_unit a env end es ms is = λ aloud F scope G n s all. row_of_type (λ c. []) (λ ch. unit_type) carried_refl (means_more s.fixed.unit) (λ c. is c n)
+ends_unit a env end es ms is = λ aloud F scope G n its s all. row_of_type (λ c. []) (λ ch. unit_type) carried_refl (means_more s.fixed.unit) (λ c. is c n)
 
 -- an end that has any type
 pub ends_any : (a b : Parts) (env : List Entry) (end : Context → ℕ → List Condition) (es : List Expression) (ms : List ℕ) (m : ℕ) → TypesAny a b m → ((c : Context) (n : ℕ) → [] ≡ end c n) → EndsRow a b env end es ms m
-ends_any a b env end es ms m any is = λ aloud F scope G n s all. row_as (λ c. is c n) (row_any a b {env = env} n any aloud F scope G s)
+ends_any a b env end es ms m any is = λ aloud F scope G n its s all. row_as (λ c. is c n) (row_any a b {env = env} n any aloud F scope G its s)
 
 -- e, e
 pub ends_tuple : (a b : Parts) (env : List Entry) (es : List Expression) (ms : List ℕ) (m : ℕ) → (All (IsNode a.store.nodes) ms → Makes a.store b.store m (Tuple ms)) → OnlyStore a b → EndsRow a b env (λ c n. is_of c n (type.Tuple (types_of (node_types c es)))) es ms m
-ends_tuple a b env es ms m made rest = λ aloud F scope G n s all.
+ends_tuple a b env es ms m made rest = λ aloud F scope G n its s all.
     let x = tuple_over a b {scope = scope} s.reached all made rest in
     row_of_type (λ c. []) (λ ch. type.Tuple (types_of (types_by ch (types_at es)))) x.carried x.means (λ c. ap (λ ts. is_of c n (type.Tuple (types_of ts))) (types_by_at c.chosen es))
 
 -- e :: e
 pub ends_cons : (a b d : Parts) (env : List Entry) (e : Expression) (es : List Expression) (ms : List ℕ) (left m : ℕ) → slice_get ms 0 ≡ Some left → (IsNode a.store.nodes left → Makes a.store b.store m (Con list_path (codes "list") (left ∷ []))) → OnlyStore a b → AsksAt b d env (e ∷ es) ms 1 m →
     EndsRow a d env (λ c n. cons_asks c n (e ∷ es)) (e ∷ es) ms m
-ends_cons a b d env e es ms left m node made rest asked = λ aloud F scope G n s all.
+ends_cons a b d env e es ms left m node made rest asked = λ aloud F scope G n its s all.
     let r = reads_at (e ∷ es) ms 0 left all node in
     let same : r.part ≡ e = one_some r.part e (sym r.here) in
     let x = list_over a b {scope = scope} (subst (λ y. Means F (sight a) G (λ ch. ch.type_at y.node) left) same r.means) made rest in
     let st = x.carried.stays in
-    let y = asked (st.aloud ∙ aloud) F scope G n 0 (λ ch. list_type (ch.type_at e.node)) (surrounds_on st s) (all_mean_on st all) x.means in
+    let y = asked (st.aloud ∙ aloud) F scope G n 0 (λ ch. list_type (ch.type_at e.node)) its (surrounds_on st s) (all_mean_on st all) x.means in
     row_of_type (λ c. has_if c n 0 (slice_get es 0) (list_type (type_at c e.node))) (λ ch. list_type (ch.type_at e.node)) (carried_trans x.carried y) (means_on y.stays x.means) (λ c. refl)
 
 -- if e then e, where the branch is a unit
 pub ends_then : (a b : Parts) (env : List Entry) (e f : Expression) (ms : List ℕ) → AsksAt a b env (e ∷ f ∷ []) ms 1 a.constants.unit.0 → EndsRow a b env (λ c n. branches_ask c n (e ∷ f ∷ [])) (e ∷ f ∷ []) ms a.constants.unit.0
-ends_then a b env e f ms asked = λ aloud F scope G n s all.
-    let x = asked aloud F scope G n 1 (λ ch. unit_type) s all (means_more s.fixed.unit) in
+ends_then a b env e f ms asked = λ aloud F scope G n its s all.
+    let x = asked aloud F scope G n 1 (λ ch. unit_type) its s all (means_more s.fixed.unit) in
     row_of_type (λ c. has_type c n 1 f unit_type) (λ ch. unit_type) x (means_on x.stays (means_more s.fixed.unit)) (λ c. refl)
 
 -- if e then e else e, where the branches have one type
 pub ends_else : (a b : Parts) (env : List Entry) (e f g : Expression) (gs : List Expression) (ms : List ℕ) (branch : ℕ) → slice_get ms 1 ≡ Some branch → AsksAt a b env (e ∷ f ∷ g ∷ gs) ms 2 branch → EndsRow a b env (λ c n. branches_ask c n (e ∷ f ∷ g ∷ gs)) (e ∷ f ∷ g ∷ gs) ms branch
-ends_else a b env e f g gs ms branch node asked = λ aloud F scope G n s all.
+ends_else a b env e f g gs ms branch node asked = λ aloud F scope G n its s all.
     let r = reads_at (e ∷ f ∷ g ∷ gs) ms 1 branch all node in
     let same : r.part ≡ f = one_some r.part f (sym r.here) in
     let has = subst (λ y. Means F (sight a) G (λ ch. ch.type_at y.node) branch) same r.means in
-    let x = asked aloud F scope G n 1 (λ ch. ch.type_at f.node) s all has in
+    let x = asked aloud F scope G n 1 (λ ch. ch.type_at f.node) its s all has in
     row_of_type (λ c. has_type c n 1 g (type_at c f.node)) (λ ch. ch.type_at f.node) x (means_on x.stays has) (λ c. refl)
 
 -- [ e; e ], where there is a first part
 pub ends_list : (a b d : Parts) (env : List Entry) (e : Expression) (es : List Expression) (ms : List ℕ) (element m : ℕ) → slice_get ms 0 ≡ Some element → Goes a b → AsksLater a b env (e ∷ es) ms element → (IsNode b.store.nodes element → Makes b.store d.store m (Con list_path (codes "list") (element ∷ []))) → OnlyStore b d →
     EndsRow a d env (λ c n. list_asks c n (e ∷ es)) (e ∷ es) ms m
-ends_list a b d env e es ms element m node goes later made rest = λ aloud F scope G n s all.
+ends_list a b d env e es ms element m node goes later made rest = λ aloud F scope G n its s all.
     let r = reads_at (e ∷ es) ms 0 element all node in
     let same : r.part ≡ e = one_some r.part e (sym r.here) in
     let has = subst (λ y. Means F (sight a) G (λ ch. ch.type_at y.node) element) same r.means in
-    let x = later aloud F scope G n (λ ch. ch.type_at e.node) s all has in
+    let x = later aloud F scope G n (λ ch. ch.type_at e.node) its s all has in
     let y = list_over b d {scope = scope} (means_on x.stays has) made rest in
     row_of_type (λ c. ask_all n 0 (each_has c (type_at c e.node) es) ++ []) (λ ch. list_type (ch.type_at e.node)) (carried_trans x y.carried) y.means
     (λ c. ap (λ xs. xs ++ is_of c n (list_type (type_at c e.node))) (append-nil (ask_all n 0 (each_has c (type_at c e.node) es))))
@@ -199,15 +199,15 @@ ends_list a b d env e es ms element m node goes later made rest = λ aloud F sco
 -- the same where there is none: a list of any type
 pub ends_list_none : (a b d e : Parts) (env : List Entry) (es : List Expression) (ms : List ℕ) (element m : ℕ) → slice_get ms 0 ≡ None → TypesAny a b element → Goes a b → AsksLater b d env es ms element → (IsNode d.store.nodes element → Makes d.store e.store m (Con list_path (codes "list") (element ∷ []))) → OnlyStore d e →
     EndsRow a e env (λ c n. list_asks c n es) es ms m
-ends_list_none a b d e env es ms element m none any goes later made rest = λ aloud F scope G n s all. by es all (none_at es ms 0 all none) later aloud F scope G n s
+ends_list_none a b d e env es ms element m none any goes later made rest = λ aloud F scope G n its s all. by es all (none_at es ms 0 all none) later aloud F scope G n its s
   where
-    by : (es : List Expression) {F : Frame} {G : Letters} → AllMean F (sight a) G (types_at es) ms → slice_get es 0 ≡ None → AsksLater b d env es ms element → is_aloud a.telling ≡ true → (F' : Frame) (scope : Scope) (G' : Letters) (n : ℕ) → Surrounds as_declared F' (sight a) G' env scope →
+    by : (es : List Expression) {F : Frame} {G : Letters} → AllMean F (sight a) G (types_at es) ms → slice_get es 0 ≡ None → AsksLater b d env es ms element → is_aloud a.telling ≡ true → (F' : Frame) (scope : Scope) (G' : Letters) (n : ℕ) → scope.own n ≡ true → Surrounds as_declared F' (sight a) G' env scope →
         RowCarried F' scope (λ c. list_asks c n es) (sight a) G' (sight e) n m
-    by (x ∷ es) all there later aloud F scope G n s = absurd (cc)
-    by [] all there later aloud F scope G n s =
+    by (x ∷ es) all there later aloud F scope G n its s = absurd (cc)
+    by [] all there later aloud F scope G n its s =
         let x = any F scope G (letter n 0) (λ t. tt) s.reached in
         let st = x.carried.stays in
-        let y = later (ap is_aloud goes.telling ∙ aloud) F scope ((letter n 0, element) ∷ G) n (λ ch. ch.letter n 0) (surrounds_on st s) (no_means ms none) x.means in
+        let y = later (ap is_aloud goes.telling ∙ aloud) F scope ((letter n 0, element) ∷ G) n (λ ch. ch.letter n 0) its (surrounds_on st s) (no_means ms none) x.means in
         let z = list_over d e {scope = scope} (means_on y.stays x.means) made rest in
         record {
           own = (letter n 0, element) ∷ [];

@@ -34,9 +34,9 @@ found_ends c n es o owner body h =
 -- e . l, where the label is found: the part is the record, and the whole is the field
 pub ends_field : (a b d : Parts) (env : List Entry) (es : List Expression) (ms : List ℕ) (p : Written) (record_node field : ℕ) (mutable : Bool) → TypesLabel a b env p record_node field mutable → Goes a b → AsksAt b d env es ms 0 record_node →
     EndsRow a d env (field_ends p es) es ms field
-ends_field a b d env es ms p record_node field mutable label goes asked = λ aloud F scope G n names all.
+ends_field a b d env es ms p record_node field mutable label goes asked = λ aloud F scope G n its names all.
     let k = label aloud F scope G n n names in
-    let q = asked (ap is_aloud goes.telling ∙ aloud) F scope (k.letters ++ G) n 1 (used_by n k.owner) (surrounds_on k.carried.stays names) (all_mean_on k.carried.stays all) k.of_record in
+    let q = asked (ap is_aloud goes.telling ∙ aloud) F scope (k.letters ++ G) n 1 (used_by n k.owner) its (surrounds_on k.carried.stays names) (all_mean_on k.carried.stays all) k.of_record in
     let behind = carried_after k.carried (λ V c loose under agrees named kept. ap (label_ends c n es) (ap (λ v. if v then label_in_scope c.env p else None) (k.kept c kept)) ∙ found_ends c n es (label_in_scope c.env p) k.owner k.body (k.finds V c loose under agrees named))
     (carried_trans q (same_made (own n) (λ t. tt) (means_on q.stays k.of_field))) in
     record {
@@ -52,7 +52,7 @@ ends_field a b d env es ms p record_node field mutable label goes asked = λ alo
 
 -- where it isn't found, the whole is of any type
 pub ends_field_unknown : (a b d : Parts) (env : List Entry) (es : List Expression) (ms : List ℕ) (p : Written) (m : ℕ) → TypesNoLabel a b env p → Goes a b → TypesAny b d m → EndsRow a d env (field_ends p es) es ms m
-ends_field_unknown a b d env es ms p m label goes any = λ aloud F scope G n names all.
+ends_field_unknown a b d env es ms p m label goes any = λ aloud F scope G n its names all.
     let k = label aloud F scope G n names in
     let v = any F scope G (own n) (λ t. tt) (k.carried.stays.reaches names.reached) in
     record {

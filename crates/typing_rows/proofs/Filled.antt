@@ -30,6 +30,7 @@ use Rattle.typing_conditions.proofs.Meaning.{all_mean_on, agrees_same}
 use Rattle.typing_conditions.proofs.Equals.{loose_one, unified_stays}
 use Rattle.typing_conditions.proofs.Refusing.{never_fit}
 use Rattle.typing_conditions.proofs.Hiding.{settles_none, none_doubtful}
+use Rattle.typing_conditions.proofs.Stops.{none_stop}
 
 -- a node that reads as a tuple has the tuple of its parts' types
 pub tuple_is : (nodes : List Node) (V : Types) (m : ℕ) (ms : List ℕ) → Loose nodes V → reading nodes m ≡ Some (Tuple ms) → V m ≡ type.Tuple (types_of (map V ms))
@@ -137,6 +138,7 @@ joined_means {F} {scope} {G} {type} {p} {q} {a} {b} W fits same h k j = by (j.jo
               hidden_too = (tt, tt);
             });
         first = λ named n V c e asked. inl (subst (λ cs. StartsWith [] (judgements c.kept cs)) (sym (take_none n)) (starts_none []));
+        stops = none_stop;
       },
       under_fits (λ v. 0) b.nodes W (one.fits (λ v. 0) W (fits_under a.nodes W fits) same),
     )
@@ -154,6 +156,13 @@ JoinsEach a b [] [] = b ≡ a
 JoinsEach a b (p ∷ ps) (q ∷ qs) = (mid : Sight) × JoinsTwo a mid p q × JoinsEach mid b ps qs
 JoinsEach a b [] (q ∷ qs) = ⊥
 JoinsEach a b (p ∷ ps) [] = ⊥
+
+-- nothing is reported
+pub each_reports : (a b : Sight) (ps qs : List ℕ) → JoinsEach a b ps qs → b.reports ≡ a.reports
+each_reports a b [] [] j = ap (λ (z : Sight). z.reports) j
+each_reports a b [] (q ∷ qs) j = absurd j
+each_reports a b (p ∷ ps) [] j = absurd j
+each_reports a b (p ∷ ps) (q ∷ qs) (mid, two, more) = each_reports mid b ps qs more ∙ two.rest.reports
 
 -- nothing is asked where they have the same types
 pub each_joined : {F : Frame} {scope : Scope} {G : Letters} {a b : Sight} (all : List (Choice → Typ)) (ps qs : List ℕ) (W : Types) → Fits a.nodes W → map W ps ≡ map W qs → AllMean F a G all ps → AllMean F a G all qs → JoinsEach a b ps qs → Carried F scope (λ c. []) a G b G

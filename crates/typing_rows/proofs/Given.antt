@@ -30,46 +30,47 @@ use Rattle.typing_steps.proofs.Asking.{two_made, argument_asked}
 use Rattle.typing_steps.proofs.Making.{arrow_over}
 use Rattle.typing_conditions.proofs.Recording.{ends_same}
 use Rattle.typing_rows.specs.Contracts.{TypesEach, TypesFirst, MakesBoth, HeadIsArrow, TypesAs, GivenAll, TypesGiven, TypesGivenFirst, TypesArgument}
+use Rattle.typing_conditions.proofs.Surrounding.{sees_on, surrounds_sees}
 
 -- two new variables
 pub makes_both : (a b d : Parts) (m n : ℕ) → MakesVar a b m any_scope → OnlyStore a b → MakesVar b d n any_scope → OnlyStore b d → MakesBoth a d m n
 makes_both a b d m n made rest made' rest' = λ F scope G first second free free' r. two_made a b d {F = F} {scope = scope} {G = G} first second free free' r made rest made' rest'
 
 -- the demand that a head is an arrow
-pub head_is_arrow : (a b d e : Parts) (env : List Entry) (at : Place) (found whole from to : ℕ) → MakesBoth a b from to → Goes a b → (IsNode b.store.nodes from → IsNode b.store.nodes to → Makes b.store d.store whole (Arrow from to)) → OnlyStore b d → AsksEqual d e at found whole →
+pub head_is_arrow : (a b d e : Parts) (env : List Entry) (at : Place) (found whole from to : ℕ) → MakesBoth a b from to → Goes a b → (IsNode b.store.nodes from → IsNode b.store.nodes to → Makes b.store d.store whole (Arrow from to)) → OnlyStore b d → AsksEqual d e env at found whole →
     HeadIsArrow a e env at found from to
-head_is_arrow a b d e env at found whole from to both goes made rest asked = λ aloud F scope G n k j h s has.
+head_is_arrow a b d e env at found whole from to both goes made rest asked = λ aloud F scope G n k j h its s has.
     let two = both F scope G (letter n j) (letter n (j + 1)) (λ t. tt) (λ t. tt) s.reached in
     let y = arrow_over b d {scope = scope} two.first_is two.second_is made rest in
     let first = carried_trans two.carried y.carried in
     let loud : is_aloud d.telling ≡ true = ap is_aloud rest.telling ∙ ap is_aloud goes.telling ∙ aloud in
-    let z = asked loud F scope ((letter n (j + 1), to) ∷ (letter n j, from) ∷ G) (site n k) h (λ ch. type.Arrow (ch.letter n j) (ch.letter n (j + 1))) (means_on first.stays has) y.means in
+    let z = asked loud F scope ((letter n (j + 1), to) ∷ (letter n j, from) ∷ G) (site n k) h (λ ch. type.Arrow (ch.letter n j) (ch.letter n (j + 1))) its (sees_on scope first.stays s.reached (surrounds_sees s)) (means_on first.stays has) y.means in
     record { carried = carried_trans first z; from_is = means_on z.stays (means_on y.carried.stays two.first_is); to_is = means_on z.stays (means_on y.carried.stays two.second_is) }
 
 -- an expression that has a type
-pub types_as : (a b d : Parts) (env : List Entry) (e : Expression) (at : Place) (found wanted : ℕ) → e.at ≡ at → TypesTo a b env (λ c. e.typed c) (λ ch. ch.type_at e.node) found → Goes a b → AsksEqual b d at found wanted → TypesAs a d env e wanted
-types_as a b d env e at found wanted place typed goes asked = λ aloud F scope G n k t s has.
+pub types_as : (a b d : Parts) (env : List Entry) (e : Expression) (at : Place) (found wanted : ℕ) → e.at ≡ at → TypesTo a b env (λ c. e.typed c) (λ ch. ch.type_at e.node) found → Goes a b → AsksEqual b d env at found wanted → TypesAs a d env e wanted
+types_as a b d env e at found wanted place typed goes asked = λ aloud F scope G n k t its s has.
     let x = typed aloud F scope G s in
-    let z = asked (ap is_aloud goes.telling ∙ aloud) F scope G (site n k) (λ ch. ch.type_at e.node) t x.means (means_on x.carried.stays has) in
+    let z = asked (ap is_aloud goes.telling ∙ aloud) F scope G (site n k) (λ ch. ch.type_at e.node) t its (sees_on scope x.carried.stays s.reached (surrounds_sees s)) x.means (means_on x.carried.stays has) in
     carried_trans x.carried (subst (λ p. Carried F scope (λ c. ask n k p (equal (c.chosen.type_at e.node) (t c.chosen))) (sight b) G (sight d) G) (sym place) z)
 
 -- an argument of a head
 pub types_argument : (a b d : Parts) (env : List Entry) (at : Place) (e : Expression) (head from to : ℕ) → HeadIsArrow a b env at head from to → Goes a b → TypesAs b d env e from → TypesArgument a d env at e head to
-types_argument a b d env at e head from to arrow goes typed = λ aloud F scope G n k j h s has.
-    let x = arrow aloud F scope G n k j h s has in
-    let y = typed (ap is_aloud goes.telling ∙ aloud) F scope ((letter n (j + 1), to) ∷ (letter n j, from) ∷ G) n (k + 1) (λ ch. ch.letter n j) (surrounds_on x.carried.stays s) x.from_is in
+types_argument a b d env at e head from to arrow goes typed = λ aloud F scope G n k j h its s has.
+    let x = arrow aloud F scope G n k j h its s has in
+    let y = typed (ap is_aloud goes.telling ∙ aloud) F scope ((letter n (j + 1), to) ∷ (letter n j, from) ∷ G) n (k + 1) (λ ch. ch.letter n j) its (surrounds_on x.carried.stays s) x.from_is in
     (from, argument_asked e x y)
 
 -- no argument yet
 pub given_none : (a : Parts) (env : List Entry) (at : Place) (es : List Expression) (head : ℕ) → TypesGivenFirst a a env at es es head head
-given_none a env at es head = λ aloud F scope G n k j h s has. record { own = []; k' = k; j' = j; below = λ mine b. b; type = h; done = λ c. []; typed = record { carried = carried_refl; means = has }; asks = λ c. refl; gives = λ ch. refl }
+given_none a env at es head = λ aloud F scope G n k j h its s has. record { own = []; k' = k; j' = j; below = λ mine b. b; type = h; done = λ c. []; typed = record { carried = carried_refl; means = has }; asks = λ c. refl; gives = λ ch. refl }
 
 -- one argument more
 pub given_more : (a b d : Parts) (env : List Entry) (at : Place) (all left rest : List Expression) (e : Expression) (head m to : ℕ) → left ≡ e ∷ rest → Goes a b → TypesGivenFirst a b env at all left head m → TypesArgument b d env at e m to →
     TypesGivenFirst a d env at all rest head to
-given_more a b d env at all left rest e head m to split goes first one = λ aloud F scope G n k j h s has.
-    let p = first aloud F scope G n k j h s has in
-    let (from, q) = one (ap is_aloud goes.telling ∙ aloud) F scope (p.own ++ G) n p.k' p.j' p.type (surrounds_on p.typed.carried.stays s) p.typed.means in
+given_more a b d env at all left rest e head m to split goes first one = λ aloud F scope G n k j h its s has.
+    let p = first aloud F scope G n k j h its s has in
+    let (from, q) = one (ap is_aloud goes.telling ∙ aloud) F scope (p.own ++ G) n p.k' p.j' p.type its (surrounds_on p.typed.carried.stays s) p.typed.means in
     record {
       own = (letter n (p.j' + 1), to) ∷ (letter n p.j', from) ∷ p.own;
       k' = p.k' + 2;
@@ -85,8 +86,8 @@ given_more a b d env at all left rest e head m to split goes first one = λ alou
 
 -- all arguments
 pub given_all : (a b : Parts) (env : List Entry) (at : Place) (all left : List Expression) (head m : ℕ) → left ≡ [] → TypesGivenFirst a b env at all left head m → TypesGiven a b env at all head m
-given_all a b env at all left head m none first = λ aloud F scope G n k j h s has.
-    let p = first aloud F scope G n k j h s has in
+given_all a b env at all left head m none first = λ aloud F scope G n k j h its s has.
+    let p = first aloud F scope G n k j h its s has in
     record {
       own = p.own;
       of_row = λ mine b. (p.below mine b).of_row;

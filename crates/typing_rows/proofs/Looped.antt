@@ -36,6 +36,7 @@ use Rattle.typing_rows.specs.Contracts.{TypesAs}
 use Rattle.typing_rows.specs.Loops.{IsLoopScope}
 use Rattle.typing_rows.proofs.Ending.{row_of_type}
 use Rattle.typing_rows.proofs.Terms.{one, as_row}
+use Rattle.typing_conditions.proofs.Stops.{around_values}
 
 -- A part is typed among one name more, whose type is that of an open node, and in which no unknown type stands whatever is chosen.
 pub surrounds_known : {D : Declared} {F : Frame} {a : Sight} {G : Letters} {env : List Entry} {scope : Scope} {type : Choice → Typ} {e : Entry} {x : Name} {n : NodeRef} (place : rules.Place) → IsEntry e x place n → Means F a G type n.0 →
@@ -56,7 +57,8 @@ in_loop a b env inner (Some t) g m (e, split, named) typed = λ aloud F scope G 
     let x = (subst (λ q. TypesTo a b q (λ c. g.typed c) (λ ch. ch.type_at g.node) m) split typed) aloud F (with_one t.name place (λ ch. int_type) scope) G here in
     record {
       carried = carried_under (λ c. with_names c (loop_names (Some t))) refl (λ c. (refl, refl))
-          (λ c u. record { env = ap (λ E. entry t.name place (a_value (monomorphic int_type)) ∷ E) u.env; variables = u.variables; held = u.held }) x.carried;
+          (λ c u. record { env = ap (λ E. entry t.name place (a_value (monomorphic int_type)) ∷ E) u.env; variables = u.variables; held = u.held })
+          (around_values scope (with_one t.name place (λ ch. int_type) scope) (λ c. with_names c (loop_names (Some t))) (λ c. g.typed c) refl (λ c u. refl)) x.carried;
       means = x.means;
     }
 
@@ -72,15 +74,15 @@ for_term i n at t formed row =
 pub for_typed : (a b d f : Parts) (env inner : List Entry) (n : ℕ) (at : Place) (t : Tree) (m : ℕ) → IsFormed n t → row_of t ≡ efor_row → TypesAs a b env (expression_of a.item (filled_in n t 3)) a.constants.int.0 → Goes a b →
     TypesAs b d env (expression_of b.item (filled_in n t 5)) a.constants.int.0 → Goes b d → IsLoopScope d.constants.int (token_in t 1) env inner →
     TypesTo d f inner (λ c. (expression_of d.item (filled_in n t 7)).typed c) (λ ch. ch.type_at (expression_of d.item (filled_in n t 7)).node) m → TypesRow a f env (λ c. (row_expression a.item n at t).typed c) (number_of a.item n) f.constants.unit.0
-for_typed a b d f env inner n at t m formed row first goes second goes' names body = λ aloud F scope G s.
+for_typed a b d f env inner n at t m formed row first goes second goes' names body = λ aloud F scope G its s.
     let i = a.item in
     let k = number_of i n in
     let p = expression_of i (filled_in n t 3) in
     let q = expression_of i (filled_in n t 5) in
     let g = expression_of i (filled_in n t 7) in
     let loud : is_aloud b.telling ≡ true = ap is_aloud goes.telling ∙ aloud in
-    let x = first aloud F scope G k 0 (λ ch. int_type) s (means_more s.fixed.int) in
-    let y = (subst (λ j. TypesAs b d env (expression_of j (filled_in n t 5)) a.constants.int.0) goes.item second) loud F scope G k 1 (λ ch. int_type) (surrounds_on x.stays s) (means_on x.stays (means_more s.fixed.int)) in
+    let x = first aloud F scope G k 0 (λ ch. int_type) its s (means_more s.fixed.int) in
+    let y = (subst (λ j. TypesAs b d env (expression_of j (filled_in n t 5)) a.constants.int.0) goes.item second) loud F scope G k 1 (λ ch. int_type) its (surrounds_on x.stays s) (means_on x.stays (means_more s.fixed.int)) in
     let front = carried_trans x y in
     let inside = subst (λ j. TypesTo d f inner (λ c. (expression_of j (filled_in n t 7)).typed c) (λ ch. ch.type_at (expression_of j (filled_in n t 7)).node) m) (goes'.item ∙ goes.item) body in
     let z = in_loop d f env inner (token_in t 1) g m names inside (ap is_aloud goes'.telling ∙ loud) F scope G (surrounds_on front.stays s) in

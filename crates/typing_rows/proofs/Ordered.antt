@@ -21,31 +21,32 @@ use Rattle.typing_steps.specs.States.{is_aloud, sight}
 use Rattle.typing_steps.specs.Typing.{TypesTo, AsksEqual}
 use Rattle.typing_rows.specs.Asked.{wants_bool, bool_if, behind_asks, parts_ask}
 use Rattle.typing_rows.specs.Contracts.{types_at, TypesParts, TypesPartsFirst, TypesPart, AsksBehind, AsksBool}
+use Rattle.typing_conditions.proofs.Surrounding.{surrounds_sees}
 
 -- the demand that an expression is a bool
-pub asks_bool : (a b : Parts) (env : List Entry) (e : Expression) (at : Place) (ty : ℕ) → e.at ≡ at → AsksEqual a b at ty a.constants.bool.0 → AsksBool a b env e ty
-asks_bool a b env e at ty place asked = λ aloud F scope G n s has.
+pub asks_bool : (a b : Parts) (env : List Entry) (e : Expression) (at : Place) (ty : ℕ) → e.at ≡ at → AsksEqual a b env at ty a.constants.bool.0 → AsksBool a b env e ty
+asks_bool a b env e at ty place asked = λ aloud F scope G n its s has.
     subst (λ p. Carried F scope (λ c. ask n 0 p (equal (c.chosen.type_at e.node) bool_type)) (sight a) G (sight b) G) (sym place)
-    (asked aloud F scope G (site n 0) (λ ch. ch.type_at e.node) (λ ch. bool_type) has (means_more s.fixed.bool))
+    (asked aloud F scope G (site n 0) (λ ch. ch.type_at e.node) (λ ch. bool_type) its (surrounds_sees s) has (means_more s.fixed.bool))
 
 -- it is made where the row wants it
 pub behind_bool : (a b : Parts) (env : List Entry) (r : Row) (i : ℕ) (e : Expression) (m : ℕ) → (i == 0 && wants_bool r (is_false e.form)) ≡ true → AsksBool a b env e m → AsksBehind a b env r i e m
-behind_bool a b env r i e m wants asked = λ aloud F scope G n s has. carried_as (λ c. ap (λ w. bool_if w c n e) (sym wants)) (asked aloud F scope G n s has)
+behind_bool a b env r i e m wants asked = λ aloud F scope G n its s has. carried_as (λ c. ap (λ w. bool_if w c n e) (sym wants)) (asked aloud F scope G n its s has)
 
 -- and nowhere else
 pub behind_none : (a : Parts) (env : List Entry) (r : Row) (i : ℕ) (e : Expression) (m : ℕ) → (i == 0 && wants_bool r (is_false e.form)) ≡ false → AsksBehind a a env r i e m
-behind_none a env r i e m wants = λ aloud F scope G n s has. carried_as (λ c. ap (λ w. bool_if w c n e) (sym wants)) carried_refl
+behind_none a env r i e m wants = λ aloud F scope G n its s has. carried_as (λ c. ap (λ w. bool_if w c n e) (sym wants)) carried_refl
 
 -- a part, and then what is asked of it
 pub part_typed : (a b d : Parts) (env : List Entry) (r : Row) (i : ℕ) (e : Expression) (m : ℕ) → TypesTo a b env (λ c. e.typed c) (λ ch. ch.type_at e.node) m → Goes a b → AsksBehind b d env r i e m → TypesPart a d env r i e m
-part_typed a b d env r i e m typed goes asked = λ aloud F scope G n s.
+part_typed a b d env r i e m typed goes asked = λ aloud F scope G n its s.
     let x = typed aloud F scope G s in
-    let y = asked (ap is_aloud goes.telling ∙ aloud) F scope G n (surrounds_on x.carried.stays s) x.means in
+    let y = asked (ap is_aloud goes.telling ∙ aloud) F scope G n its (surrounds_on x.carried.stays s) x.means in
     record { carried = carried_trans x.carried y; means = means_on y.stays x.means }
 
 -- no part yet
 pub parts_none : (a : Parts) (env : List Entry) (r : Row) (es : List Expression) (ms : List ℕ) → ms ≡ [] → TypesPartsFirst a a env r 0 es es ms
-parts_none a env r es ms none = λ aloud F scope G n s. record {
+parts_none a env r es ms none = λ aloud F scope G n its s. record {
   done = λ c. [];
   types = [];
   carried = carried_refl;
@@ -57,9 +58,9 @@ parts_none a env r es ms none = λ aloud F scope G n s. record {
 -- one part more
 pub parts_more : (a b d : Parts) (env : List Entry) (r : Row) (i j : ℕ) (all left rest : List Expression) (e : Expression) (ms more : List ℕ) (m : ℕ) → left ≡ e ∷ rest → j ≡ i → more ≡ ms ++ m ∷ [] → Goes a b → TypesPartsFirst a b env r i all left ms → TypesPart b d env r j e m →
     TypesPartsFirst a d env r (i + 1) all rest more
-parts_more a b d env r i j all left rest e ms more m split place longer goes first one = λ aloud F scope G n s.
-    let p = first aloud F scope G n s in
-    let q = subst (λ k. CarriedTo F scope (λ c. e.typed c ++ behind_asks r k c n e) (sight b) G (sight d) G (λ ch. ch.type_at e.node) m) place (one (ap is_aloud goes.telling ∙ aloud) F scope G n (surrounds_on p.carried.stays s)) in
+parts_more a b d env r i j all left rest e ms more m split place longer goes first one = λ aloud F scope G n its s.
+    let p = first aloud F scope G n its s in
+    let q = subst (λ k. CarriedTo F scope (λ c. e.typed c ++ behind_asks r k c n e) (sight b) G (sight d) G (λ ch. ch.type_at e.node) m) place (one (ap is_aloud goes.telling ∙ aloud) F scope G n its (surrounds_on p.carried.stays s)) in
     record {
       done = λ c. p.done c ++ (e.typed c ++ behind_asks r i c n e);
       types = p.types ++ (λ (ch : Choice). ch.type_at e.node) ∷ [];
@@ -71,8 +72,8 @@ parts_more a b d env r i j all left rest e ms more m split place longer goes fir
 
 -- all parts
 pub parts_all : (a b : Parts) (env : List Entry) (r : Row) (i : ℕ) (all left : List Expression) (ms : List ℕ) → left ≡ [] → TypesPartsFirst a b env r i all left ms → TypesParts a b env r all ms
-parts_all a b env r i all left ms none first = λ aloud F scope G n s.
-    let p = first aloud F scope G n s in
+parts_all a b env r i all left ms none first = λ aloud F scope G n its s.
+    let p = first aloud F scope G n its s in
     record {
       carried = carried_as (λ c. sym (append-nil (p.done c)) ∙ ap (λ es. p.done c ++ parts_ask r i c n es) (sym none) ∙ sym (p.asks c)) p.carried;
       means = subst (λ ts. AllMean F (sight b) G ts ms) (sym (append-nil p.types) ∙ ap (λ es. p.types ++ types_at es) (sym none) ∙ sym p.gives) p.means;

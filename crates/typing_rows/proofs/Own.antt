@@ -23,6 +23,9 @@ use Rattle.typing_conditions.proofs.Keeping.{all_among, carried_kept, kept_done}
 use Rattle.typing_conditions.proofs.Meaning.{means_on}
 use Rattle.typing_conditions.proofs.Recording.{now_or_before, here_now, records_stay, records_note}
 use Rattle.typing_conditions.proofs.Hiding.{placed_before, settles_none, settles_on, owns_sure, none_doubtful}
+use Rattle.typing_model.specs.Demands.{treated}
+use Rattle.typing_model.specs.Demands as condition
+use Rattle.typing_conditions.proofs.Stops.{none_stop, stop_cons, stop_end, treated_silent, known_silent, lasts_on}
 
 -- a type is itself
 pub same_itself : {F : Frame} {scope : Scope} {G : Letters} {a : Sight} (type : Choice → Typ) → Carried F scope (λ c. same (type c.chosen) (type c.chosen) ∷ []) a G a G
@@ -39,6 +42,7 @@ same_itself {F} {scope} {G} {a} type = record {
   follows = λ r V c l. refl;
   complete = λ named. complete;
   first = λ named. first_one (λ c. same (type c.chosen) (type c.chosen)) complete;
+  stops = none_stop;
 }
   where
     complete : (V : Types) (c : Context) → Enters F scope a G V c → AllHold c.kept (same (type c.chosen) (type c.chosen) ∷ []) →
@@ -73,6 +77,7 @@ ends_made {F} {scope} {G} {a} {n} {m} {type} {ends} p end = record {
         hidden_too = (tt, tt);
       });
   first = λ named k V c e h. inl (subst (StartsWith []) (sym (end.silent_first k c)) (starts_all []));
+  stops = none_stop;
 }
 
 -- A node for which the choice has its type already is recorded. It tells what it is before all that was asked.
@@ -129,6 +134,7 @@ own_recorded {F} {scope} {asks} {a} {b} {d} {G} {H} n {p} {m} {env} number it me
     | inr short ↦ inr short
   ];
   first = λ named. first (named_before scope later named);
+  stops = λ k s e kind. stop_cons (λ c. treated n c.env) (treated_silent n) (stop_cons (λ c. condition.known (c.chosen.type_at n)) (known_silent n) (stop_end (lasts_on (it.hidden ++ H) later) (it.stops k s e kind)));
 }
   where
     later : Stays F b H d H

@@ -18,8 +18,8 @@ use Rattle.typing_state.specs.Notes.{Noted, NotedNameless}
 use Rattle.typing_state.specs.Types.{MakesVar, any_scope}
 use Rattle.typing_conditions.specs.Sights.{number_in}
 use Rattle.typing_conditions.proofs.Answering.{to_as}
-use Rattle.typing_conditions.specs.Carrying.{SeesScope}
-use Rattle.typing_conditions.proofs.Surrounding.{surrounds_sees}
+use Rattle.typing_conditions.specs.Carrying.{SeesScope, at_node}
+use Rattle.typing_conditions.proofs.Surrounding.{surrounds_sees, surrounds_at, own_node}
 use Rattle.typing_steps.specs.States.{is_aloud, sight}
 use Rattle.typing_steps.specs.Typing.{TypesTo, TypesRow}
 use Rattle.typing_steps.proofs.Rows.{row_carried, row_any, var_any}
@@ -47,7 +47,7 @@ pub row_typed : (a b d : Parts) (o : Operand) (nd : Bor Node) (negated : Bool) (
 row_typed a b d o nd negated env ty seen there is among typed goes noted rest carried = λ aloud F scope G s.
     let here : IsCarried (numbered o.number (place_of o.span) (inner (node_view nd.now))) = subst (λ m. IsCarried (numbered o.number (place_of o.span) (part_of m o.span))) there carried in
     let loud : is_aloud b.telling ≡ true = ap is_aloud goes.telling ∙ aloud in
-    let row = typed (place_of o.span) here aloud F scope G s in
+    let row = typed (place_of o.span) here aloud F (at_node (number_of a.item o.number) scope) G (own_node (number_of a.item o.number)) (surrounds_at (number_of a.item o.number) s) in
     let whole = row_carried (ap (λ i. number_in i o.number) goes.item) row (type_noted b d o.number ty seen is loud noted rest) (subst (SeesScope F scope (sight a) G) (sym among) (surrounds_sees s)) in
     let same : numbered o.number (place_of o.span) (inner (node_view nd.now)) ≡ operand_view o = ap (λ m. numbered o.number (place_of o.span) (part_of m o.span)) (sym there) in
     to_as (λ c. row_here negated a.item o.number (place_of o.span) (node_view nd.now) c ∙ ap (λ x. (under_minus negated (expression_of a.item x)).typed c) same) (λ ch. ap ch.type_at (sym (expression_of_stands a.item (operand_view o)).number)) whole
@@ -62,7 +62,7 @@ pub missing_typed : (a b d : Parts) (o : Operand) (negated : Bool) (env : List E
 missing_typed a b d o negated env ty none made rest goes noted only = λ aloud F scope G s.
     let n = number_of a.item o.number in
     let loud : is_aloud b.telling ≡ true = ap is_aloud goes.telling ∙ aloud in
-    let row = row_any a b {env = env} n (var_any a b made rest) aloud F scope G s in
+    let row = row_any a b {env = env} n (var_any a b made rest) aloud F (at_node n scope) G (own_node n) (surrounds_at n s) in
     let whole = row_carried (ap (λ i. number_in i o.number) goes.item) row (nameless_noted b d o.number env ty loud noted only) (surrounds_sees s) in
     let same : numbered o.number (place_of o.span) (missing (place_of o.span)) ≡ operand_view o = ap (λ m. numbered o.number (place_of o.span) (part_of m o.span)) (sym none) in
     to_as (λ c. missing_asks negated a.item o.number (place_of o.span) (place_of o.span) c ∙ ap (λ x. (under_minus negated (expression_of a.item x)).typed c) same) (λ ch. ap ch.type_at (sym (expression_of_stands a.item (operand_view o)).number)) whole

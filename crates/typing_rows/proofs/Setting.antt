@@ -48,6 +48,8 @@ use Rattle.typing_rows.specs.Fields.{settable_asks, mutable_by, mutable_asks, As
 use Rattle.typing_rows.proofs.Ending.{row_of_type, row_after}
 use Rattle.typing_rows.proofs.Terms.{one, as_row, field_term, ordered_term}
 use Rattle.typing_rows.proofs.Fielded.{found_ends}
+use Rattle.typing_conditions.specs.Carrying.{at_node}
+use Rattle.typing_conditions.proofs.Surrounding.{surrounds_at, own_node}
 
 -- the demand that a label is mutable, kept or reported at the label
 pub asks_settable : (a b : Parts) (span : Span) (qs : List Tok) (t : Tok) (mutable : Bool) → view.place_of span ≡ place_of t → TestedAs mutable a b span fault.Mutable (not_mutable_text t.name) → AsksSettable a b (record { qualifiers = qs; last = Some t }) mutable
@@ -78,10 +80,10 @@ mutable_none c n m p none = ap (mutable_by n p.last) (by (is_kept c m 0) (label_
 -- e . l, where the label is found: the part is the record, the whole is the field, and the label is to be mutable
 pub ends_settable : (a b d f : Parts) (env : List Entry) (es : List Expression) (ms : List ℕ) (p : Written) (record_node field : ℕ) (mutable : Bool) → TypesLabel a b env p record_node field mutable → Goes a b → AsksAt b d env es ms 0 record_node → Goes b d →
     AsksSettable d f p mutable → EndsSettable a f env p es ms field
-ends_settable a b d f env es ms p record_node field mutable label goes asked goes' tested = λ aloud F scope G n m names all.
+ends_settable a b d f env es ms p record_node field mutable label goes asked goes' tested = λ aloud F scope G n m its names all.
     let k = label aloud F scope G m m names in
     let loud : is_aloud b.telling ≡ true = ap is_aloud goes.telling ∙ aloud in
-    let q = asked loud F scope (k.letters ++ G) m 1 (used_by m k.owner) (surrounds_on k.carried.stays names) (all_mean_on k.carried.stays all) k.of_record in
+    let q = asked loud F scope (k.letters ++ G) m 1 (used_by m k.owner) its (surrounds_on k.carried.stays names) (all_mean_on k.carried.stays all) k.of_record in
     let have = means_on q.stays k.of_field in
     let r = tested (ap is_aloud goes'.telling ∙ loud) F scope ((own m, field) ∷ (k.letters ++ G)) n in
     let made = same_made {scope = scope} (own m) (λ t. tt) have in
@@ -107,7 +109,7 @@ ends_settable a b d f env es ms p record_node field mutable label goes asked goe
 
 -- where it isn't found, the whole is of any type
 pub ends_settable_unknown : (a b d : Parts) (env : List Entry) (es : List Expression) (ms : List ℕ) (p : Written) (ty : ℕ) → TypesNoLabel a b env p → Goes a b → TypesAny b d ty → EndsSettable a d env p es ms ty
-ends_settable_unknown a b d env es ms p ty label goes any = λ aloud F scope G n m names all.
+ends_settable_unknown a b d env es ms p ty label goes any = λ aloud F scope G n m its names all.
     let k = label aloud F scope G m names in
     let v = any F scope G (own m) (λ t. tt) (k.carried.stays.reaches names.reached) in
     let behind = carried_after {further = λ c. label_ends c m es (if is_kept c m 0 then label_in_scope c.env p else None) ++ mutable_asks c n m p} k.carried (λ V c loose under agrees named kept.
@@ -146,8 +148,8 @@ field_settable a b d f env n at t ms ty formed row parts goes ends goes' records
     let i = a.item in
     let m = number_of i n in
     let loud : is_aloud b.telling ≡ true = ap is_aloud goes.telling ∙ aloud in
-    let p = parts aloud F scope G m s in
-    let end = (subst (λ j. EndsSettable b d env (path_of (path_in t 2 3)) (expressions_of j (all_operands n t)) ms ty) goes.item ends) loud F scope G k m (surrounds_on p.carried.stays s) p.means in
+    let p = parts aloud F (at_node m scope) G m (own_node m) (surrounds_at m s) in
+    let end = (subst (λ j. EndsSettable b d env (path_of (path_in t 2 3)) (expressions_of j (all_operands n t)) ms ty) goes.item ends) loud F (at_node m scope) G k m (own_node m) (surrounds_on p.carried.stays (surrounds_at m s)) p.means in
     let whole = row_carried (ap (λ j. number_in j n) (goes'.item ∙ goes.item)) (row_after p.carried end) (records (ap is_aloud goes'.telling ∙ loud)) (surrounds_sees s) in
     to_as (λ c. recorded_settable i n k at t formed row c) (λ ch. ap ch.type_at (sym (expression_of_stands i (numbered n at (inner t))).number)) whole
 
@@ -164,13 +166,13 @@ set_term i n at t formed row =
 -- The row of a field that is set: the field, and the right part, which has its type.
 pub set_typed : (a b d : Parts) (env : List Entry) (n : ℕ) (at : Place) (t : Tree) (ty : ℕ) → IsFormed n t → row_of t ≡ eset_row → TypesSettable a b env (expression_of a.item (filled_in n t 0)) ty → Goes a b →
     TypesAs b d env (expression_of b.item (filled_in n t 2)) ty → TypesRow a d env (λ c. (row_expression a.item n at t).typed c) (number_of a.item n) d.constants.unit.0
-set_typed a b d env n at t ty formed row typed goes right = λ aloud F scope G s.
+set_typed a b d env n at t ty formed row typed goes right = λ aloud F scope G its s.
     let i = a.item in
     let m = number_of i n in
     let e = expression_of i (filled_in n t 0) in
     let f = expression_of i (filled_in n t 2) in
     let x = typed aloud F scope G m s in
-    let y = (subst (λ j. TypesAs b d env (expression_of j (filled_in n t 2)) ty) goes.item right) (ap is_aloud goes.telling ∙ aloud) F scope G m 1 (λ ch. ch.type_at e.node) (surrounds_on x.carried.stays s) x.means in
+    let y = (subst (λ j. TypesAs b d env (expression_of j (filled_in n t 2)) ty) goes.item right) (ap is_aloud goes.telling ∙ aloud) F scope G m 1 (λ ch. ch.type_at e.node) its (surrounds_on x.carried.stays s) x.means in
     let z = carried_trans x.carried y in
     row_of_type (λ c. (e.typed c ++ ask_mutable c m e.form) ++ (f.typed c ++ has_type c m 1 f (type_at c e.node))) (λ ch. unit_type) z (means_more (surrounds_on z.stays s).fixed.unit)
     (λ c. ap (λ xs. xs ++ is_of c m unit_type) (sym (append_assoc (e.typed c ++ ask_mutable c m e.form) (f.typed c) (has_type c m 1 f (type_at c e.node)))) ∙ ap (λ x. x.typed c) (sym (set_term i n at t formed row)))

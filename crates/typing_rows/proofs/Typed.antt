@@ -33,6 +33,7 @@ use Rattle.typing_rows.specs.Contracts.{TypesEach, TypesGiven, TypesParts, EndsR
 use Rattle.typing_rows.proofs.Given.{applied_row}
 use Rattle.typing_rows.proofs.Ending.{row_of_type, row_as, row_after, plain_typed}
 use Rattle.typing_rows.proofs.Terms.{name_term, path_term, constant_term, hole_term, application_term, paren_term, prefix_term, infix_term, minus_term, one_operand, two_operands, ordered_term}
+use Rattle.typing_conditions.specs.Carrying.{at_node}
 
 -- an expression that asks the same under a minus
 pub under_as : (negated : Bool) (e x : Expression) (c : Context) → e ≡ x → x.negated c ≡ x.typed c → x.typed c ≡ (under_minus negated e).typed c
@@ -42,8 +43,8 @@ under_as false e x c is same = ap (λ y. y.typed c) (sym is)
 -- x
 pub named_row : (a b : Parts) (env : List Entry) (i n : ℕ) (at : Place) (t : Tree) (negated : Bool) (m : ℕ) → row_of t ≡ name_row → TypesOwn a b env (λ c u. value_asks c (number_of i n) 0 (path_of (path_in t 9 0)) u) m →
     TypesRow a b env (λ c. (under_minus negated (row_expression i n at t)).typed c) (number_of i n) m
-named_row a b env i n at t negated m row typed = λ aloud F scope G s.
-    row_as (λ c. under_as negated (row_expression i n at t) (name_expression (number_of i n) at (path_of (path_in t 9 0))) c (name_term i n at t row) refl) (row_own a b {env = env} (λ c u. value_asks c (number_of i n) 0 (path_of (path_in t 9 0)) u) (number_of i n) typed aloud F scope G s)
+named_row a b env i n at t negated m row typed = λ aloud F scope G its s.
+    row_as (λ c. under_as negated (row_expression i n at t) (name_expression (number_of i n) at (path_of (path_in t 9 0))) c (name_term i n at t row) refl) (row_own a b {env = env} (λ c u. value_asks c (number_of i n) 0 (path_of (path_in t 9 0)) u) (number_of i n) typed aloud F scope G its s)
 
 -- what a path asks that names no constructor
 record AsksValue (n : ℕ) (p : Written) (e : Expression) (c : Context) : Type 0 where
@@ -65,9 +66,9 @@ asks_value n at p c h = by p.last h
 -- M.x
 pub path_row : (a b : Parts) (env : List Entry) (i n : ℕ) (at : Place) (t : Tree) (negated : Bool) (m : ℕ) → row_of t ≡ epath_row → names_constructor (token_in t 1) ≡ false → TypesOwn a b env (λ c u. value_asks c (number_of i n) 0 (path_of (path_in t 0 1)) u) m →
     TypesRow a b env (λ c. (under_minus negated (row_expression i n at t)).typed c) (number_of i n) m
-path_row a b env i n at t negated m row plain typed = λ aloud F scope G s.
+path_row a b env i n at t negated m row plain typed = λ aloud F scope G its s.
     let asks = λ (c : Context). asks_value (number_of i n) at (path_of (path_in t 0 1)) c plain in
-    row_as (λ c. (asks c).typed ∙ under_as negated (row_expression i n at t) (path_expression (number_of i n) at (path_of (path_in t 0 1))) c (path_term i n at t row) (asks c).same) (row_own a b {env = env} (λ c u. value_asks c (number_of i n) 0 (path_of (path_in t 0 1)) u) (number_of i n) typed aloud F scope G s)
+    row_as (λ c. (asks c).typed ∙ under_as negated (row_expression i n at t) (path_expression (number_of i n) at (path_of (path_in t 0 1))) c (path_term i n at t row) (asks c).same) (row_own a b {env = env} (λ c u. value_asks c (number_of i n) 0 (path_of (path_in t 0 1)) u) (number_of i n) typed aloud F scope G its s)
 
 constant_under : (negated : Bool) (n : ℕ) (at : Place) (o : Option Tok) (c : Context) → constant negated n o c ≡ (under_minus negated (constant_expression n at o)).typed c
 constant_under true n at o c = refl
@@ -76,29 +77,29 @@ constant_under false n at o c = refl
 -- 1, "a", true
 pub constant_row : (a b : Parts) (env : List Entry) (i n : ℕ) (at : Place) (t : Tree) (negated : Bool) (m : ℕ) → row_of t ≡ econst_row → TypesRow a b env (constant negated (number_of i n) (token_in t 0)) (number_of i n) m →
     TypesRow a b env (λ c. (under_minus negated (row_expression i n at t)).typed c) (number_of i n) m
-constant_row a b env i n at t negated m row typed = λ aloud F scope G s.
-    row_as (λ c. constant_under negated (number_of i n) at (token_in t 0) c ∙ ap (λ e. (under_minus negated e).typed c) (sym (constant_term i n at t row))) (typed aloud F scope G s)
+constant_row a b env i n at t negated m row typed = λ aloud F scope G its s.
+    row_as (λ c. constant_under negated (number_of i n) at (token_in t 0) c ∙ ap (λ e. (under_minus negated e).typed c) (sym (constant_term i n at t row))) (typed aloud F scope G its s)
 
 -- _
 pub hole_any : (a b : Parts) (env : List Entry) (i n : ℕ) (at : Place) (t : Tree) (negated : Bool) (m : ℕ) → row_of t ≡ hole_row → TypesAny a b m → TypesRow a b env (λ c. (under_minus negated (row_expression i n at t)).typed c) (number_of i n) m
-hole_any a b env i n at t negated m row typed = λ aloud F scope G s.
-    row_as (λ c. under_as negated (row_expression i n at t) (hole_expression (number_of i n) at) c (hole_term i n at t row) refl) (row_any a b {env = env} (number_of i n) typed aloud F scope G s)
+hole_any a b env i n at t negated m row typed = λ aloud F scope G its s.
+    row_as (λ c. under_as negated (row_expression i n at t) (hole_expression (number_of i n) at) c (hole_term i n at t row) refl) (row_any a b {env = env} (number_of i n) typed aloud F scope G its s)
 
 -- a head that is no constructor, with its arguments
 pub applied_typed : (a b d : Parts) (env : List Entry) (head : Expression) (es : ℕ → List Expression) (at : Place) (ty to n : ℕ) → head.at ≡ at → TypesTo a b env (λ c. head.typed c) (λ ch. ch.type_at head.node) ty → Goes a b → TypesGiven b d env at (es b.item) ty to →
     TypesRow a d env (applied_asks n head (es a.item)) n to
-applied_typed a b d env head es at ty to n place typed goes given = λ aloud F scope G s.
+applied_typed a b d env head es at ty to n place typed goes given = λ aloud F scope G its s.
     let x = typed aloud F scope G s in
     let here : TypesGiven b d env head.at (es a.item) ty to = subst (λ p. TypesGiven b d env p (es a.item) ty to) (sym place) (subst (λ j. TypesGiven b d env at (es j) ty to) goes.item given) in
-    applied_row [] (below_none n 0) x (here (ap is_aloud goes.telling ∙ aloud) F scope G n 0 0 (λ ch. ch.type_at head.node) (surrounds_on x.carried.stays s) x.means)
+    applied_row [] (below_none n 0) x (here (ap is_aloud goes.telling ∙ aloud) F scope G n 0 0 (λ ch. ch.type_at head.node) its (surrounds_on x.carried.stays s) x.means)
 
 -- an operator, with its arguments
 pub operated_typed : (a b d : Parts) (env : List Entry) (t : Tok) (es : ℕ → List Expression) (ty to n : ℕ) → TypesOwn a b env (λ c u. value_asks c n 0 (record { qualifiers = []; last = Some t }) u) ty → Goes a b → TypesGiven b d env (parts.place_of t) (es b.item) ty to →
     TypesRow a d env (operated_asks n t (es a.item)) n to
-operated_typed a b d env t es ty to n typed goes given = λ aloud F scope G s.
+operated_typed a b d env t es ty to n typed goes given = λ aloud F scope G its s.
     let x = typed aloud F scope G (key.letter n 0) (λ u. tt) s in
     let here : TypesGiven b d env (parts.place_of t) (es a.item) ty to = subst (λ j. TypesGiven b d env (parts.place_of t) (es j) ty to) goes.item given in
-    applied_row ((key.letter n 0, ty) ∷ []) (below_more 0 1 ty (omega arith) (omega arith) (below_none n 0)) x (here (ap is_aloud goes.telling ∙ aloud) F scope ((key.letter n 0, ty) ∷ G) n 1 1 (λ ch. ch.letter n 0) (surrounds_on x.carried.stays s) x.means)
+    applied_row ((key.letter n 0, ty) ∷ []) (below_more 0 1 ty (omega arith) (omega arith) (below_none n 0)) x (here (ap is_aloud goes.telling ∙ aloud) F scope ((key.letter n 0, ty) ∷ G) n 1 1 (λ ch. ch.letter n 0) its (surrounds_on x.carried.stays s) x.means)
 
 -- a row that asks the same under a minus
 abbrev pub IsUsual : Row → Type 0
@@ -146,7 +147,7 @@ row_usual _ n at cs c h = refl
 
 -- A row that asks the same under a minus, whatever is in front of it.
 pub signed_row : (a b : Parts) (env : List Entry) (i n : ℕ) (at : Place) (t : Tree) (negated : Bool) (m : ℕ) → IsUsual (row_of t) → TypesRow a b env (λ c. (row_expression i n at t).typed c) (number_of i n) m → TypesRow a b env (λ c. (under_minus negated (row_expression i n at t)).typed c) (number_of i n) m
-signed_row a b env i n at t true m usual typed = λ aloud F scope G s. row_as (λ c. sym (row_usual (row_of t) (number_of i n) at (parts_of i n t) c usual)) (typed aloud F scope G s)
+signed_row a b env i n at t true m usual typed = λ aloud F scope G its s. row_as (λ c. sym (row_usual (row_of t) (number_of i n) at (parts_of i n t) c usual)) (typed aloud F scope G its s)
 signed_row a b env i n at t false m usual typed = typed
 
 -- an application whose head is no constructor asks the head and then the arguments
@@ -162,14 +163,14 @@ application_asked c n head es parts.other no_one = refl
 -- e e e
 pub application_typed : (a d : Parts) (env : List Entry) (i n : ℕ) (at : Place) (t : Tree) (m : ℕ) → IsFormed n t → row_of t ≡ eapp_row → IsNoConstructor (expression_of i (filled_in n t 0)).form →
     TypesRow a d env (applied_asks (number_of i n) (expression_of i (filled_in n t 0)) (expressions_of i (operands_in n t 1))) (number_of i n) m → TypesRow a d env (λ c. (row_expression i n at t).typed c) (number_of i n) m
-application_typed a d env i n at t m formed row plain typed = λ aloud F scope G s.
+application_typed a d env i n at t m formed row plain typed = λ aloud F scope G its s.
     let head = expression_of i (filled_in n t 0) in
-    row_as (λ c. application_asked c (number_of i n) head (expressions_of i (operands_in n t 1)) head.form plain ∙ ap (λ e. e.typed c) (sym (application_term i n at t formed row))) (typed aloud F scope G s)
+    row_as (λ c. application_asked c (number_of i n) head (expressions_of i (operands_in n t 1)) head.form plain ∙ ap (λ e. e.typed c) (sym (application_term i n at t formed row))) (typed aloud F scope G its s)
 
 -- ( e )
 pub paren_typed : (a b : Parts) (env : List Entry) (i n : ℕ) (at : Place) (t : Tree) (m : ℕ) → IsFormed n t → row_of t ≡ eparen_row → first_in n t 3 ≡ None → TypesTo a b env (λ c. (expression_of i (filled_in n t 1)).typed c) (λ ch. ch.type_at (expression_of i (filled_in n t 1)).node) m →
     TypesRow a b env (λ c. (row_expression i n at t).typed c) (number_of i n) m
-paren_typed a b env i n at t m formed row none typed = λ aloud F scope G s.
+paren_typed a b env i n at t m formed row none typed = λ aloud F scope G its s.
     let e = expression_of i (filled_in n t 1) in
     let x = typed aloud F scope G s in
     row_of_type (λ c. e.typed c) (λ ch. ch.type_at e.node) x.carried x.means (λ c. ap (λ y. y.typed c) (sym (paren_term i n at t formed row none)))
@@ -184,9 +185,9 @@ ordered_typed a b d env n at t ms m formed ordered parts goes ends =
 
 -- the arguments of an operator alone, where it is missing
 pub unoperated_typed : (a b d : Parts) (env : List Entry) (es : List Expression) (n m : ℕ) → TypesEach a b env es → Goes a b → TypesAny b d m → TypesRow a d env (λ c. typed_all c es) n m
-unoperated_typed a b d env es n m each goes any = λ aloud F scope G s.
+unoperated_typed a b d env es n m each goes any = λ aloud F scope G its s.
     let x = each aloud F scope G s in
-    row_as (λ c. append-nil (typed_all c es)) (row_after x (row_any b d {env = env} n any (ap is_aloud goes.telling ∙ aloud) F scope G (surrounds_on x.stays s)))
+    row_as (λ c. append-nil (typed_all c es)) (row_after x (row_any b d {env = env} n any (ap is_aloud goes.telling ∙ aloud) F scope G its (surrounds_on x.stays s)))
 
 -- an operator under another kind of token asks the same
 pub operated_as : (c : Context) (n : ℕ) (t u : Tok) (name : List ℕ) (es : List Expression) → u.start ≡ t.start → u.end ≡ t.end → u.name ≡ name → operated_asks n u es c ≡ operator_applied c n (Some t) name es
@@ -196,17 +197,17 @@ operated_as c n t u name es start end named = (λ k. operated_asks n (record { k
 pub prefix_typed : (a d : Parts) (env : List Entry) (i n : ℕ) (at : Place) (t : Tree) (m : ℕ) → IsFormed n t → row_of t ≡ prefix_row →
     TypesRow a d env (λ c. operator_applied c (number_of i n) (token_in t 0) (name_of (token_in t 0)) (expressions_of i (all_operands n t))) (number_of i n) m → TypesRow a d env (λ c. (row_expression i n at t).typed c) (number_of i n) m
 unfolding is_operand is_needed may_repeat
-prefix_typed a d env i n at t m formed row typed = λ aloud F scope G s.
+prefix_typed a d env i n at t m formed row typed = λ aloud F scope G its s.
     row_as (λ c. ap (λ os. operator_applied c (number_of i n) (token_in t 0) (name_of (token_in t 0)) (expressions_of i os)) (one_operand n t prefix_row formed row refl refl refl refl) ∙ ap (λ y. y.typed c) (sym (prefix_term i n at t formed row)))
-    (typed aloud F scope G s)
+    (typed aloud F scope G its s)
 
 -- e + e, with its operator or without
 pub infix_typed : (a d : Parts) (env : List Entry) (i n : ℕ) (at : Place) (t : Tree) (m : ℕ) → IsFormed n t → row_of t ≡ infix_row →
     TypesRow a d env (λ c. operator_applied c (number_of i n) (token_in t 1) (name_of (token_in t 1)) (expressions_of i (all_operands n t))) (number_of i n) m → TypesRow a d env (λ c. (row_expression i n at t).typed c) (number_of i n) m
 unfolding is_operand is_needed may_repeat
-infix_typed a d env i n at t m formed row typed = λ aloud F scope G s.
+infix_typed a d env i n at t m formed row typed = λ aloud F scope G its s.
     row_as (λ c. ap (λ os. operator_applied c (number_of i n) (token_in t 1) (name_of (token_in t 1)) (expressions_of i os)) (two_operands n t infix_row 0 2 formed row refl refl refl refl refl refl refl) ∙ ap (λ y. y.typed c) (sym (infix_term i n at t formed row)))
-    (typed aloud F scope G s)
+    (typed aloud F scope G its s)
 
 -- a form that isn't a numeral's with a point
 abbrev pub IsNoFloat : Form → Type 0
@@ -226,9 +227,9 @@ minus_asked c n t e parts.other no_one = refl
 pub minus_typed : (a d : Parts) (env : List Entry) (i n : ℕ) (at : Place) (t : Tree) (m : ℕ) → IsFormed n t → row_of t ≡ eneg_row → IsNoFloat (expression_of i (filled_in n t 1)).form →
     TypesRow a d env (λ c. operator_applied c (number_of i n) (token_in t 0) (codes "~" ++ name_of (token_in t 0)) (under_sign (token_in t 0) (expression_of i (filled_in n t 1)) ∷ [])) (number_of i n) m →
     TypesRow a d env (λ c. (row_expression i n at t).typed c) (number_of i n) m
-minus_typed a d env i n at t m formed row plain typed = λ aloud F scope G s.
+minus_typed a d env i n at t m formed row plain typed = λ aloud F scope G its s.
     let e = expression_of i (filled_in n t 1) in
-    row_as (λ c. minus_asked c (number_of i n) (token_in t 0) e e.form plain ∙ ap (λ y. y.typed c) (sym (minus_term i n at t formed row))) (typed aloud F scope G s)
+    row_as (λ c. minus_asked c (number_of i n) (token_in t 0) e e.form plain ∙ ap (λ y. y.typed c) (sym (minus_term i n at t formed row))) (typed aloud F scope G its s)
 
 -- the one operand of a minus
 pub minus_operand : (n : ℕ) (t : Tree) → IsFormed n t → row_of t ≡ eneg_row → all_operands n t ≡ filled_in n t 1 ∷ []
@@ -242,10 +243,10 @@ float_asked c n t e f is = ap (minus_asks c n t e) (sym is)
 pub float_typed : (a b : Parts) (env : List Entry) (i n number : ℕ) (at : Place) (t : Tree) → IsFormed n t → row_of t ≡ eneg_row → (expression_of i (filled_in n t 1)).form ≡ parts.a_float → number_in a.item number ≡ number_of i (filled_in n t 1).number →
     ((c : Context) → (expression_of i (filled_in n t 1)).negated c ≡ tell_typed (number_of i (filled_in n t 1).number) c ++ is_of c (number_of i (filled_in n t 1).number) float_type) →
     (is_aloud a.telling ≡ true → Records (sight a) (sight b) number a.constants.float.0 env) → TypesRow a b env (λ c. (row_expression i n at t).typed c) (number_of i n) a.constants.float.0
-float_typed a b env i n number at t formed row form place asks records = λ aloud F scope G s.
+float_typed a b env i n number at t formed row form place asks records = λ aloud F scope G its s.
     let e = expression_of i (filled_in n t 1) in
     let k = number_of i (filled_in n t 1).number in
-    let inner_row : RowCarried F scope (λ c. is_of c k float_type) (sight a) G (sight a) k a.constants.float.0 = row_of_type (λ c. []) (λ ch. float_type) carried_refl (means_more s.fixed.float) (λ c. refl) in
+    let inner_row : RowCarried F (at_node k scope) (λ c. is_of c k float_type) (sight a) G (sight a) k a.constants.float.0 = row_of_type (λ c. []) (λ ch. float_type) carried_refl (means_more s.fixed.float) (λ c. refl) in
     let x = row_carried place inner_row (records aloud) (surrounds_sees s) in
     row_of_type (λ c. tell_typed k c ++ is_of c k float_type) (λ ch. float_type) x.carried (means_on x.carried.stays (means_more s.fixed.float))
     (λ c. ap (λ xs. xs ++ is_of c (number_of i n) float_type) (sym (asks c)) ∙ float_asked c (number_of i n) (token_in t 0) e e.form form ∙ ap (λ y. y.typed c) (sym (minus_term i n at t formed row)))

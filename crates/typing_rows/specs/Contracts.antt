@@ -49,12 +49,12 @@ MakesBoth a b m n = (F : Frame) (scope : Scope) (G : Letters) (first second : Ke
 
 -- the demand that a head is an arrow
 abbrev pub HeadIsArrow : (a b : Parts) → List Entry → Place → (head from to : ℕ) → Type 0
-HeadIsArrow a b env at head from to = is_aloud a.telling ≡ true → (F : Frame) (scope : Scope) (G : Letters) (n k j : ℕ) (h : Choice → Typ) → Surrounds as_declared F (sight a) G env scope → Means F (sight a) G h head →
+HeadIsArrow a b env at head from to = is_aloud a.telling ≡ true → (F : Frame) (scope : Scope) (G : Letters) (n k j : ℕ) (h : Choice → Typ) → scope.own n ≡ true → Surrounds as_declared F (sight a) G env scope → Means F (sight a) G h head →
     AsksArrow F scope (sight a) G (sight b) h n k j at from to
 
 -- an expression that has a type
 abbrev pub TypesAs : (a b : Parts) → List Entry → Expression → (wanted : ℕ) → Type 0
-TypesAs a b env e wanted = is_aloud a.telling ≡ true → (F : Frame) (scope : Scope) (G : Letters) (n k : ℕ) (t : Choice → Typ) → Surrounds as_declared F (sight a) G env scope → Means F (sight a) G t wanted →
+TypesAs a b env e wanted = is_aloud a.telling ≡ true → (F : Frame) (scope : Scope) (G : Letters) (n k : ℕ) (t : Choice → Typ) → scope.own n ≡ true → Surrounds as_declared F (sight a) G env scope → Means F (sight a) G t wanted →
     Carried F scope (λ c. e.typed c ++ has_type c n k e (t c.chosen)) (sight a) G (sight b) G
 
 -- of a head's arguments all were typed; their letters belong to the row alone, with others of places before
@@ -77,17 +77,17 @@ pub record GivenFirst (F : Frame) (scope : Scope) (a : Sight) (G : Letters) (b :
 
 -- a head with arguments
 abbrev pub TypesGiven : (a b : Parts) → List Entry → Place → List Expression → (head m : ℕ) → Type 0
-TypesGiven a b env at es head m = is_aloud a.telling ≡ true → (F : Frame) (scope : Scope) (G : Letters) (n k j : ℕ) (h : Choice → Typ) → Surrounds as_declared F (sight a) G env scope → Means F (sight a) G h head →
+TypesGiven a b env at es head m = is_aloud a.telling ≡ true → (F : Frame) (scope : Scope) (G : Letters) (n k j : ℕ) (h : Choice → Typ) → scope.own n ≡ true → Surrounds as_declared F (sight a) G env scope → Means F (sight a) G h head →
     GivenAll F scope (sight a) G (sight b) h n k j at es m
 
 -- the same in a loop
 abbrev pub TypesGivenFirst : (a b : Parts) → List Entry → Place → (all left : List Expression) → (head m : ℕ) → Type 0
-TypesGivenFirst a b env at all left head m = is_aloud a.telling ≡ true → (F : Frame) (scope : Scope) (G : Letters) (n k j : ℕ) (h : Choice → Typ) → Surrounds as_declared F (sight a) G env scope → Means F (sight a) G h head →
+TypesGivenFirst a b env at all left head m = is_aloud a.telling ≡ true → (F : Frame) (scope : Scope) (G : Letters) (n k j : ℕ) (h : Choice → Typ) → scope.own n ≡ true → Surrounds as_declared F (sight a) G env scope → Means F (sight a) G h head →
     GivenFirst F scope (sight a) G (sight b) h n k j at all left m
 
 -- a head with one argument
 abbrev pub TypesArgument : (a b : Parts) → List Entry → Place → Expression → (head to : ℕ) → Type 0
-TypesArgument a b env at e head to = is_aloud a.telling ≡ true → (F : Frame) (scope : Scope) (G : Letters) (n k j : ℕ) (h : Choice → Typ) → Surrounds as_declared F (sight a) G env scope → Means F (sight a) G h head →
+TypesArgument a b env at e head to = is_aloud a.telling ≡ true → (F : Frame) (scope : Scope) (G : Letters) (n k j : ℕ) (h : Choice → Typ) → scope.own n ≡ true → Surrounds as_declared F (sight a) G env scope → Means F (sight a) G h head →
     (from : ℕ) × CarriedTo F scope (λ c. argument_asks c n k j at (h c.chosen) e) (sight a) G (sight b) ((letter n (j + 1), to) ∷ (letter n j, from) ∷ G) (λ ch. ch.letter n (j + 1)) to
 
 -- the parts of a row were typed: they have their nodes' types
@@ -106,35 +106,35 @@ pub record PartsFirst (F : Frame) (scope : Scope) (a : Sight) (G : Letters) (b :
 
 -- the parts of a row
 abbrev pub TypesParts : (a b : Parts) → List Entry → Row → List Expression → List ℕ → Type 0
-TypesParts a b env r es ms = is_aloud a.telling ≡ true → (F : Frame) (scope : Scope) (G : Letters) (n : ℕ) → Surrounds as_declared F (sight a) G env scope → PartsAll F scope (sight a) G (sight b) r n es ms
+TypesParts a b env r es ms = is_aloud a.telling ≡ true → (F : Frame) (scope : Scope) (G : Letters) (n : ℕ) → scope.own n ≡ true → Surrounds as_declared F (sight a) G env scope → PartsAll F scope (sight a) G (sight b) r n es ms
 
 -- the same in a loop
 abbrev pub TypesPartsFirst : (a b : Parts) → List Entry → Row → (place : ℕ) → (all left : List Expression) → List ℕ → Type 0
-TypesPartsFirst a b env r i all left ms = is_aloud a.telling ≡ true → (F : Frame) (scope : Scope) (G : Letters) (n : ℕ) → Surrounds as_declared F (sight a) G env scope → PartsFirst F scope (sight a) G (sight b) r n i all left ms
+TypesPartsFirst a b env r i all left ms = is_aloud a.telling ≡ true → (F : Frame) (scope : Scope) (G : Letters) (n : ℕ) → scope.own n ≡ true → Surrounds as_declared F (sight a) G env scope → PartsFirst F scope (sight a) G (sight b) r n i all left ms
 
 -- one part, with what is asked of it
 abbrev pub TypesPart : (a b : Parts) → List Entry → Row → (place : ℕ) → Expression → (m : ℕ) → Type 0
-TypesPart a b env r i e m = is_aloud a.telling ≡ true → (F : Frame) (scope : Scope) (G : Letters) (n : ℕ) → Surrounds as_declared F (sight a) G env scope →
+TypesPart a b env r i e m = is_aloud a.telling ≡ true → (F : Frame) (scope : Scope) (G : Letters) (n : ℕ) → scope.own n ≡ true → Surrounds as_declared F (sight a) G env scope →
     CarriedTo F scope (λ c. e.typed c ++ behind_asks r i c n e) (sight a) G (sight b) G (λ ch. ch.type_at e.node) m
 
 -- what is asked of a part that was typed
 abbrev pub AsksBehind : (a b : Parts) → List Entry → Row → (place : ℕ) → Expression → (m : ℕ) → Type 0
-AsksBehind a b env r i e m = is_aloud a.telling ≡ true → (F : Frame) (scope : Scope) (G : Letters) (n : ℕ) → Surrounds as_declared F (sight a) G env scope → Means F (sight a) G (λ ch. ch.type_at e.node) m →
+AsksBehind a b env r i e m = is_aloud a.telling ≡ true → (F : Frame) (scope : Scope) (G : Letters) (n : ℕ) → scope.own n ≡ true → Surrounds as_declared F (sight a) G env scope → Means F (sight a) G (λ ch. ch.type_at e.node) m →
     Carried F scope (λ c. behind_asks r i c n e) (sight a) G (sight b) G
 
 -- the demand that an expression is a bool
 abbrev pub AsksBool : (a b : Parts) → List Entry → Expression → (m : ℕ) → Type 0
-AsksBool a b env e m = is_aloud a.telling ≡ true → (F : Frame) (scope : Scope) (G : Letters) (n : ℕ) → Surrounds as_declared F (sight a) G env scope → Means F (sight a) G (λ ch. ch.type_at e.node) m →
+AsksBool a b env e m = is_aloud a.telling ≡ true → (F : Frame) (scope : Scope) (G : Letters) (n : ℕ) → scope.own n ≡ true → Surrounds as_declared F (sight a) G env scope → Means F (sight a) G (λ ch. ch.type_at e.node) m →
     Carried F scope (λ c. has_type c n 0 e bool_type) (sight a) G (sight b) G
 
 -- the demand that the part at a place has a type
 abbrev pub AsksAt : (a b : Parts) → List Entry → List Expression → List ℕ → (place wanted : ℕ) → Type 0
-AsksAt a b env es ms place wanted = is_aloud a.telling ≡ true → (F : Frame) (scope : Scope) (G : Letters) (n k : ℕ) (t : Choice → Typ) → Surrounds as_declared F (sight a) G env scope → AllMean F (sight a) G (types_at es) ms → Means F (sight a) G t wanted →
+AsksAt a b env es ms place wanted = is_aloud a.telling ≡ true → (F : Frame) (scope : Scope) (G : Letters) (n k : ℕ) (t : Choice → Typ) → scope.own n ≡ true → Surrounds as_declared F (sight a) G env scope → AllMean F (sight a) G (types_at es) ms → Means F (sight a) G t wanted →
     Carried F scope (λ c. has_if c n k (slice_get es place) (t c.chosen)) (sight a) G (sight b) G
 
 -- the demand that each part after the first has a type
 abbrev pub AsksLater : (a b : Parts) → List Entry → List Expression → List ℕ → (wanted : ℕ) → Type 0
-AsksLater a b env es ms wanted = is_aloud a.telling ≡ true → (F : Frame) (scope : Scope) (G : Letters) (n : ℕ) (t : Choice → Typ) → Surrounds as_declared F (sight a) G env scope → AllMean F (sight a) G (types_at es) ms → Means F (sight a) G t wanted →
+AsksLater a b env es ms wanted = is_aloud a.telling ≡ true → (F : Frame) (scope : Scope) (G : Letters) (n : ℕ) (t : Choice → Typ) → scope.own n ≡ true → Surrounds as_declared F (sight a) G env scope → AllMean F (sight a) G (types_at es) ms → Means F (sight a) G t wanted →
     Carried F scope (λ c. ask_all n 0 (each_has c (t c.chosen) (behind_first es))) (sight a) G (sight b) G
 
 -- the first of them were asked, and some are left
@@ -146,12 +146,12 @@ pub record LaterFirst (F : Frame) (scope : Scope) (a : Sight) (G : Letters) (b :
 
 -- the same in a loop
 abbrev pub AsksLaterFirst : (a b : Parts) → List Entry → List Expression → List ℕ → (wanted : ℕ) → (all left : List Expression) → Type 0
-AsksLaterFirst a b env es ms wanted all left = is_aloud a.telling ≡ true → (F : Frame) (scope : Scope) (G : Letters) (n : ℕ) (t : Choice → Typ) → Surrounds as_declared F (sight a) G env scope → AllMean F (sight a) G (types_at es) ms →
+AsksLaterFirst a b env es ms wanted all left = is_aloud a.telling ≡ true → (F : Frame) (scope : Scope) (G : Letters) (n : ℕ) (t : Choice → Typ) → scope.own n ≡ true → Surrounds as_declared F (sight a) G env scope → AllMean F (sight a) G (types_at es) ms →
     Means F (sight a) G t wanted → LaterFirst F scope (sight a) G (sight b) n t all left
 
 -- the end of a row whose parts are typed
 abbrev pub EndsRow : (a b : Parts) → List Entry → (Context → ℕ → List Condition) → List Expression → List ℕ → (m : ℕ) → Type 0
-EndsRow a b env asks es ms m = is_aloud a.telling ≡ true → (F : Frame) (scope : Scope) (G : Letters) (n : ℕ) → Surrounds as_declared F (sight a) G env scope → AllMean F (sight a) G (types_at es) ms →
+EndsRow a b env asks es ms m = is_aloud a.telling ≡ true → (F : Frame) (scope : Scope) (G : Letters) (n : ℕ) → scope.own n ≡ true → Surrounds as_declared F (sight a) G env scope → AllMean F (sight a) G (types_at es) ms →
     RowCarried F scope (λ c. asks c n) (sight a) G (sight b) n m
 
 -- an expression, which has the type that may be wanted
@@ -168,11 +168,11 @@ pub record HeadCarried (F : Frame) (scope : Scope) (a : Sight) (G : Letters) (b 
 
 -- a constructor with its first argument
 abbrev pub TypesHead : (a b : Parts) → List Entry → (n head : ℕ) → Written → (known : Bool) → Expression → (m : ℕ) → Type 0
-TypesHead a b env n head p known e m = is_aloud a.telling ≡ true → (F : Frame) (scope : Scope) (G : Letters) → Surrounds as_declared F (sight a) G env scope → HeadCarried F scope (sight a) G (sight b) n head p known e m
+TypesHead a b env n head p known e m = is_aloud a.telling ≡ true → (F : Frame) (scope : Scope) (G : Letters) → scope.own n ≡ true → Surrounds as_declared F (sight a) G env scope → HeadCarried F scope (sight a) G (sight b) n head p known e m
 
 -- the arguments of a constructor after the first one
 abbrev pub TypesLater : (a b : Parts) → List Entry → (known : Bool) → Place → List Expression → (head m : ℕ) → Type 0
-TypesLater a b env known at es head m = is_aloud a.telling ≡ true → (F : Frame) (scope : Scope) (G : Letters) (n : ℕ) (h : Choice → Typ) → Surrounds as_declared F (sight a) G env scope → Means F (sight a) G h head →
+TypesLater a b env known at es head m = is_aloud a.telling ≡ true → (F : Frame) (scope : Scope) (G : Letters) (n : ℕ) (h : Choice → Typ) → scope.own n ≡ true → Surrounds as_declared F (sight a) G env scope → Means F (sight a) G h head →
     RowCarried F scope (λ c. later_asks known c n at (h c.chosen) es) (sight a) G (sight b) n m
 
 -- the type of the whole where the constructor isn't known: with one argument the constructor's, with more any

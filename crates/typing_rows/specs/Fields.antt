@@ -36,7 +36,7 @@ AsksSettable a b p mutable = is_aloud a.telling ≡ true → (F : Frame) (scope 
 
 -- the end of the field m that the row n sets: as of any field, and then `mutable`
 abbrev pub EndsSettable : (a b : Parts) → List Entry → Written → List Expression → List ℕ → (ty : ℕ) → Type 0
-EndsSettable a b env p es ms ty = is_aloud a.telling ≡ true → (F : Frame) (scope : Scope) (G : Letters) (n m : ℕ) → Surrounds as_declared F (sight a) G env scope → AllMean F (sight a) G (types_at es) ms →
+EndsSettable a b env p es ms ty = is_aloud a.telling ≡ true → (F : Frame) (scope : Scope) (G : Letters) (n m : ℕ) → scope.own m ≡ true → Surrounds as_declared F (sight a) G env scope → AllMean F (sight a) G (types_at es) ms →
     RowCarried F scope (λ c. field_ends p es c m ++ mutable_asks c n m p) (sight a) G (sight b) m ty
 
 -- the left part of `e . l <- e`, with `mutable` of its label

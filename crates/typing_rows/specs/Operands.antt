@@ -102,5 +102,5 @@ EndsPlainRow a b t ms m = HasNoConstructor (row_of t) → (env : List Entry) (nu
 
 -- a part with the type `is` has the type w that is written behind it, whose node has a letter then; it is demanded for any site
 abbrev pub Annotates : (a b : Parts) → List Entry → TypeExpression → Place → (found m : ℕ) → Type 0
-Annotates a b env w place found m = is_aloud a.telling ≡ true → (F : Frame) (scope : Scope) (G : Letters) (n k : ℕ) (is : Choice → Typ) → Surrounds as_declared F (sight a) G env scope → Means F (sight a) G is found →
+Annotates a b env w place found m = is_aloud a.telling ≡ true → (F : Frame) (scope : Scope) (G : Letters) (n k : ℕ) (is : Choice → Typ) → scope.own n ≡ true → Surrounds as_declared F (sight a) G env scope → Means F (sight a) G is found →
     ReadAs F scope (λ c. w.read c ++ ask n k place (equal (is c.chosen) (type_at c w.node))) (sight a) G (sight b) w.node m

@@ -9,8 +9,9 @@ use Rattle.env_table.specs.declared.faults.FaultKind.TheVariants as fault
 use Rattle.level_unify.specs.declared.fault.ClashKind.{ClashKind}
 use Rattle.typing_state.specs.declared.parts.Parts.{Parts}
 use Rattle.typing_state.specs.Goes.{faults_of, Told}
-use Rattle.typing_state.specs.Messages.{equal_text}
-use Rattle.typing_state.specs.Demands.{ShowTwo, DiffersBy}
+use Rattle.level_unify.specs.Messages.{equal_text}
+use Rattle.type_print.specs.Texts.{ShowTwo}
+use Rattle.typing_state.specs.Demands.{DiffersBy}
 
 -- what is told of two texts is told of the types that they show
 pub differs_by : {A E : Type 0} (r : Result A E) (old new : Parts) (at : Span) (found wanted : NodeRef) (kind : ClashKind) (env : List Entry) (first second x y : List ℕ) → x ≡ first → y ≡ second →

@@ -9,25 +9,14 @@ use Rattle.level_unify.specs.declared.fault.Clash.{Clash}
 use Rattle.level_unify.specs.declared.fault.ClashKind.{ClashKind}
 use Rattle.level_unify.specs.Solutions.{HaveNoBound}
 use Rattle.level_unify.specs.Unification.{Clashes}
-use Rattle.type_print_model.specs.Variables.{variable_name, variables_of}
-use Rattle.type_print.specs.Shown.{shown}
-use Rattle.type_print.specs.Texts.{PrintsWith, PrintsTwoIn}
+use Rattle.type_print.specs.Texts.{ShowTwo}
 use Rattle.typing_state.specs.declared.parts.Parts.{Parts}
 use Rattle.typing_state.specs.declared.demands.Verdict.{Verdict}
 use Rattle.typing_state.specs.declared.demands.Verdict.TheVariants.{Kept, Reported}
 use Rattle.typing_state.specs.Goes.{faults_of, Told}
-use Rattle.typing_state.specs.Messages.{equal_text, arity_text}
+use Rattle.level_unify.specs.Messages.{equal_text}
+use Rattle.typing_state.specs.Messages.{arity_text}
 use Rattle.typing_state.specs.Types.{MadeOne}
-
--- the names of the variables of two types, which they share, by first occurrence
-abbrev pub shared_names : List Node → (a b : ℕ) → ℕ → List ℕ
-shared_names nodes a b = variable_name [] (variables_of (shown nodes a) ++ variables_of (shown nodes b))
-
--- the texts of two types, by each naming of origins that agrees with all nodes, and by one of their own
-pub record ShowTwo (nodes : List Node) (env : List Entry) (a b : ℕ) (first second : List ℕ) : Type 0 where
-  pub found_first : PrintsWith nodes env (shared_names nodes a b) (shown nodes a) first
-  pub found_second : PrintsWith nodes env (shared_names nodes a b) (shown nodes b) second
-  pub inside : PrintsTwoIn nodes env (shown nodes a) (shown nodes b) first second
 
 -- exactly one fault tells two types, and what keeps them apart
 pub record DiffersBy (old new : Parts) (at : Span) (found wanted : NodeRef) (kind : ClashKind) (env : List Entry) : Type 0 where

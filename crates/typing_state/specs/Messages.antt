@@ -1,8 +1,6 @@
 -- The messages of faults.
 use Rattle.std.specs.Prelude.{ℕ, List, [], ◌++◌, codes}
 use Rattle.std.specs.Fmt.{decimal}
-use Rattle.level_unify.specs.declared.fault.ClashKind.{ClashKind}
-use Rattle.level_unify.specs.declared.fault.ClashKind.TheVariants.{Shape, Cycle, Scope}
 use Rattle.typing_state.specs.declared.messages.Word.{Word}
 use Rattle.typing_state.specs.declared.messages.Word.TheVariants as word
 
@@ -15,16 +13,6 @@ word_text word.Type = codes "type"
 word_text word.TypeVariable = codes "type variable"
 word_text word.Module = codes "module"
 word_text word.ModuleType = codes "module type"
-
--- what stands behind two types that differ
-abbrev pub ending_text : ClashKind → List ℕ
-ending_text Shape = []
-ending_text Cycle = codes ", which would contain itself"
-ending_text Scope = codes ", in which a later type may not stand"
-
--- a type is found where another one is wanted
-abbrev pub equal_text : (found wanted : List ℕ) → ClashKind → List ℕ
-equal_text found wanted kind = codes "This has type " ++ found ++ codes " but type " ++ wanted ++ codes " is wanted" ++ ending_text kind
 
 -- nothing of this kind is bound to the name
 abbrev pub unbound_text : Word → (name : List ℕ) → List ℕ

@@ -3,10 +3,12 @@ ghost use Rattle.std.specs.Prelude.{◌≡◌, IfOk, OnOk, OnErr};
 ghost use Rattle.text_terms.specs.Bytes.{str_bytes};
 ghost use Rattle.type_nodes.specs.Nodes.{IsNode};
 ghost use Rattle.type_nodes.specs.States.{Keeps};
+ghost use Rattle.level_unify.specs.Messages.{ending_text, equal_text};
+ghost use Rattle.type_print.specs.Texts.{ShowTwo};
 ghost use Rattle.env_table.specs.declared.faults.FaultKind.{FaultKind};
 ghost use Rattle.typing_state.specs.Goes.{Goes, faults_of, OnlyFaults, OnlyStoreAndFaults, Told};
-ghost use Rattle.typing_state.specs.Messages.{ending_text, equal_text, unbound_text, twice_text, one_side_text, incomplete_text, not_mutable_text, cyclic_text, differs_text, no_label_text, too_large_text};
-ghost use Rattle.typing_state.specs.Demands.{ShowTwo, DiffersBy, EqualIs, ArityIs};
+ghost use Rattle.typing_state.specs.Messages.{unbound_text, twice_text, one_side_text, incomplete_text, not_mutable_text, cyclic_text, differs_text, no_label_text, too_large_text};
+ghost use Rattle.typing_state.specs.Demands.{DiffersBy, EqualIs, ArityIs};
 
 use crate::messages::{Word, message};
 use crate::nodes::is_node;

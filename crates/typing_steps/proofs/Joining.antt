@@ -40,6 +40,7 @@ use Rattle.typing_steps.specs.States.{sight}
 use Rattle.typing_steps.proofs.Seeing.{only_nodes, level_here}
 use Rattle.typing_steps.proofs.Limiting.{LimitAsks, Limited}
 use Rattle.typing_conditions.proofs.Hiding.{settles_none, none_doubtful}
+use Rattle.typing_conditions.proofs.Stops.{none_stop}
 
 -- two open types were made one: they are the same
 pub same_joined : {F : Frame} {scope : Scope} {G : Letters} {first second : Choice → Typ} {m n : ℕ} {a b : Sight} → IsSound b.nodes → Means F a G first m → Means F a G second n → OnlyNodes a b → Tightens a.nodes b.nodes → Unified a.nodes b.nodes m n →
@@ -61,6 +62,7 @@ same_joined {F} {scope} {G} {first} {second} {m} {n} {a} {b} sound p q rest tigh
   follows = λ r V c l. refl;
   complete = λ named. complete;
   first = λ named. first_one (λ c. same (first c.chosen) (second c.chosen)) complete;
+  stops = none_stop;
 }
   where
     stays : Stays F a G b G
@@ -127,6 +129,7 @@ scoped_letter {F} {scope} {G} {a} {b} {s} {t} {n} {o} {asks} key free limits r m
     follows = λ r V c l. follows_silent c.kept (asks c) (limits.silent c);
     complete = λ named V c e h. inl (record { same = limits.silent c; types = with_type V n (value_of c.chosen key); on = goes V c e (limits.gives c h); hidden_too = (tt, tt) });
     first = λ named k V c e h. inl (subst (StartsWith []) (sym (limits.silent_first k c)) (starts_none []));
+    stops = none_stop;
   };
   means = record { open_node = opened; is = λ V ch loose g. g.given.0.is };
 }

@@ -41,6 +41,8 @@ use Rattle.typing_conditions.proofs.Framing.{sound_made, written_next}
 use Rattle.typing_conditions.proofs.Making.{with_type, at_own, at_older, in_any_scope, makes_extends, made_here, reading_before, fits_made}
 use Rattle.typing_conditions.proofs.Meaning.{agrees_same, inside_longer}
 use Rattle.typing_conditions.proofs.Hiding.{keeps_as, settles_none, none_doubtful}
+use Rattle.typing_conditions.proofs.Copies.{copied_same}
+use Rattle.typing_conditions.proofs.Stops.{none_stop}
 
 -- What is asked of a type that is limited to a scope: that its origins are in the scope.
 pub record LimitAsks (scope : ℕ) (type : Choice → Typ) (asks : Asks) : Type 0 where
@@ -180,6 +182,7 @@ module _ {F : Frame} {a b : Sight} {mid : State} {v l o m : ℕ} (at : Limited F
     keeps = keeps_as at.rest.noted at.rest.scopes at.rest.types;
     written = λ x n e. at.rest.written x ∙ e;
     given = λ V ch h. h;
+    opens = copied_same G;
     inside = inside_longer a b at.rest.types at.rest.written longer;
     aloud = at.rest.aloud;
     item = at.rest.item;
@@ -217,6 +220,7 @@ limit_asked {F} {a} {b} {mid} {v} {l} {o} {m} {scope} {G} {type} {asks} at p lim
   follows = λ reached V c r. follows_silent c.kept (asks c) (limits.silent c);
   complete = λ named V c e h. inl (goes V c e (limits.gives c h));
   first = λ named k V c e h. inl (subst (StartsWith []) (sym (limits.silent_first k c)) (starts_none []));
+  stops = none_stop;
 }
   where
     stays : Stays F a G b G

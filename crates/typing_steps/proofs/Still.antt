@@ -38,6 +38,7 @@ use Rattle.typing_steps.specs.Warning.{OnlyNotes}
 use Rattle.typing_steps.proofs.Seeing.{same_state, nodes_of_both, reports_of_both}
 use Rattle.typing_steps.proofs.Recording.{noted_still, noted_now, scopes_still, noted_scope}
 use Rattle.typing_conditions.proofs.Hiding.{keeps_as, settles_none, none_doubtful}
+use Rattle.typing_conditions.proofs.Stops.{none_stop}
 
 -- conditions that hold in any case, of which none is a demand, and that say of no node that it is treated
 pub record IsIdle (asks : Asks) : Type 0 where
@@ -62,6 +63,7 @@ carried_idle {F} {scope} {asks} {a} {b} {G} idle rest same = record {
   follows = λ r V c l. follows_silent c.kept (asks c) (idle.silent c);
   complete = λ named V c e h. inl (record { same = idle.silent c; types = V; on = goes_as rest e; hidden_too = (tt, tt) });
   first = λ named k V c e h. inl (subst (StartsWith []) (sym (idle.silent_first k c)) (starts_none []));
+  stops = none_stop;
 }
 
 -- and nothing is hidden

@@ -1,10 +1,10 @@
 -- An instance of a declaration's root: the letters of a node stand for the images of its parameters, and what its unknown types are filled with there for theirs.
-use Rattle.std.proofs.Common.{◌≡◌, ◌∙◌, ◌++◌, inl, ℕ, true, List, [], refl, sym, ap, subst, append-nil}
-use Rattle.type_model.specs.Types.{Typ, occurs}
+use Rattle.std.proofs.Common.{◌≡◌, ◌∙◌, ◌++◌, inl, ℕ, List, [], refl, sym, ap, subst, append-nil}
+use Rattle.type_model.specs.Types.{Typ}
 use Rattle.type_model.specs.Types.{Typ as type}
 use Rattle.type_model.specs.Substitutions.{apply}
 use Rattle.signature_model.specs.Matching.{used}
-use Rattle.typing_model.specs.Contexts.{Choice, Context}
+use Rattle.typing_model.specs.Contexts.{Context}
 use Rattle.type_nodes.specs.Nodes.{IsSound}
 use Rattle.type_nodes.specs.Readings.{Types}
 use Rattle.level_unify.specs.Instances.{Instantiated}
@@ -27,6 +27,8 @@ use Rattle.typing_conditions.proofs.First.{starts_none}
 use Rattle.typing_conditions.proofs.Making.{loose_before, reading_before}
 use Rattle.typing_conditions.proofs.Meaning.{agrees_same, inside_longer}
 use Rattle.typing_conditions.proofs.Hiding.{keeps_as, settles_none, none_doubtful}
+use Rattle.typing_conditions.proofs.Copies.{copied_after}
+use Rattle.typing_conditions.proofs.Stops.{none_stop}
 use Rattle.typing_conditions.specs.Hiding.{AreOfRow}
 use Rattle.typing_steps.proofs.Images.{images_in, named_value, nodes_both, given_at, at_given, nodes_at, arrow_inside, images_of_row}
 
@@ -59,6 +61,7 @@ root_taken {F} {scope} {G} {a} {b} {C} {N} {arity} {root} {m} {t} n reached is_r
       follows = λ r V c l. refl;
       complete = λ named V c e h. inl (complete V c e);
       first = λ named k V c e h. inl (subst (λ cs. StartsWith [] (judgements c.kept cs)) (sym (take_none k)) (starts_none []));
+      stops = none_stop;
     };
     means = record {
       open_node = opened;
@@ -100,6 +103,7 @@ root_taken {F} {scope} {G} {a} {b} {C} {N} {arity} {root} {m} {t} n reached is_r
       keeps = keeps_as rest.noted rest.scopes rest.types;
       written = λ y k e. rest.written y ∙ e;
       given = λ V ch h. given_right V ch letters G h;
+      opens = copied_after letters G;
       inside = λ h.
           let i = inside_longer a b rest.types rest.written taken.extends.longer h in
           record { recorded = i.recorded; written = i.written; given = nodes_both b.nodes letters G letter_nodes i.given };

@@ -31,6 +31,7 @@ use Rattle.typing_conditions.specs.Carrying.{Asks, Scope, HoldsWritten, IsUnder,
 use Rattle.typing_conditions.proofs.Stays.{agrees_before, named_before}
 use Rattle.typing_conditions.proofs.Carried.{Decides}
 use Rattle.typing_conditions.proofs.Branching.{carried_if}
+use Rattle.typing_conditions.proofs.Stops.{stop_here}
 use Rattle.typing_conditions.proofs.Tests.{TestIs, test_judged}
 use Rattle.typing_steps.specs.States.{is_warning, is_aloud, sight}
 use Rattle.typing_steps.specs.Demands.{JudgedAs, is_kept, TestedAs}
@@ -58,6 +59,7 @@ carried_here {F} {scope} {asks} {others} {a} {b} {G} {H} e p = record {
     | inr short ↦ inr (subst (λ cs. FallsShort (judgements c.kept cs) p.judged) (at_start named V c en) short)
   ];
   first = λ named k V c en h. subst (λ cs. Decides c p.judged (take k cs)) (at_start named V c en) (p.first named k V c en (subst (λ cs. AllHold c.kept (take k cs)) (sym (at_start named V c en)) h));
+  stops = λ k r f kind. stop_here e (p.stops k r f kind);
 }
   where
     at_start : HoldsWritten scope b → (V : Types) (c : Context) → Enters F scope a G V c → asks c ≡ others c

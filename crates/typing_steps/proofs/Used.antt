@@ -32,6 +32,8 @@ use Rattle.typing_conditions.proofs.First.{starts_none}
 use Rattle.typing_conditions.proofs.Making.{loose_before, reading_before}
 use Rattle.typing_conditions.proofs.Meaning.{agrees_same, inside_longer}
 use Rattle.typing_conditions.proofs.Hiding.{split_get, keeps_as, settles_none, none_doubtful}
+use Rattle.typing_conditions.proofs.Copies.{copied_after}
+use Rattle.typing_conditions.proofs.Stops.{none_stop}
 
 -- what is chosen for a name: for a parameter by its number, for an unknown type at the node n
 abbrev pub key_by : (ℕ → Key) → ℕ → Typ → Key
@@ -153,6 +155,7 @@ root_used {F} {scope} {G} {a} {b} {C} {N} {arity} {root} {m} {t} key free s f na
       follows = λ r V c l. refl;
       complete = λ named V c e h. inl (complete V c e);
       first = λ named k V c e h. inl (subst (λ cs. StartsWith [] (judgements c.kept cs)) (sym (take_none k)) (starts_none []));
+      stops = none_stop;
     };
     means = record {
       open_node = opened;
@@ -200,6 +203,7 @@ root_used {F} {scope} {G} {a} {b} {C} {N} {arity} {root} {m} {t} key free s f na
       keeps = keeps_as rest.noted rest.scopes rest.types;
       written = λ y k e. rest.written y ∙ e;
       given = λ V ch h. given_right V ch letters G h;
+      opens = copied_after letters G;
       inside = λ h.
           let i = inside_longer a b rest.types rest.written taken.extends.longer h in
           record { recorded = i.recorded; written = i.written; given = nodes_both letters G b.nodes letter_nodes i.given };

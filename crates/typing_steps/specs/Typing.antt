@@ -13,7 +13,7 @@ use Rattle.typing_conditions.specs.Declared.{DeclaredAs, ExceptionAs}
 use Rattle.typing_conditions.specs.Sights.{Sight, Key, value_of, Letters, IsKnownFor}
 use Rattle.typing_conditions.specs.Frames.{Frame, Reaches}
 use Rattle.typing_conditions.specs.Meanings.{Means}
-use Rattle.typing_conditions.specs.Carrying.{Asks, Scope, Carried, CarriedTo, EndsAs}
+use Rattle.typing_conditions.specs.Carrying.{Asks, Scope, SeesScope, Carried, CarriedTo, EndsAs}
 use Rattle.typing_conditions.specs.Hiding.{Owns}
 use Rattle.typing_conditions.specs.Surroundings.{Declared, Surrounds}
 use Rattle.typing_steps.specs.States.{is_aloud, sight}
@@ -48,19 +48,19 @@ pub record RowCarried (F : Frame) (scope : Scope) (asks : Asks) (a : Sight) (G :
   pub owns : F.known ≡ true → Owns n m b typed.carried.hidden own
   pub end : EndsAs n type ends
 
--- Where faults are reported, a call carries a row with these conditions so far.
+-- Where faults are reported, a call carries a row with these conditions so far, where the demands of its node are made.
 abbrev pub TypesRow : (a b : Parts) → List Entry → Asks → (n m : ℕ) → Type 0
-TypesRow a b env asks n m = is_aloud a.telling ≡ true → (F : Frame) (scope : Scope) (G : Letters) → Surrounds as_declared F (sight a) G env scope → RowCarried F scope asks (sight a) G (sight b) n m
+TypesRow a b env asks n m = is_aloud a.telling ≡ true → (F : Frame) (scope : Scope) (G : Letters) → scope.own n ≡ true → Surrounds as_declared F (sight a) G env scope → RowCarried F scope asks (sight a) G (sight b) n m
 
--- The demand, at a place and of any site, that one node's type is another's.
-abbrev pub AsksEqual : (a b : Parts) → Place → (found wanted : ℕ) → Type 0
-AsksEqual a b at found wanted = is_aloud a.telling ≡ true → (F : Frame) (scope : Scope) (G : Letters) (s : Site) (is want : Choice → Typ) → Means F (sight a) G is found → Means F (sight a) G want wanted →
+-- The demand, at a place and of any site, that one node's type is another's; where it is reported, types are named by the names in scope, which stand for those of the site's node.
+abbrev pub AsksEqual : (a b : Parts) → List Entry → Place → (found wanted : ℕ) → Type 0
+AsksEqual a b env at found wanted = is_aloud a.telling ≡ true → (F : Frame) (scope : Scope) (G : Letters) (s : Site) (is want : Choice → Typ) → scope.own s.node ≡ true → SeesScope F scope (sight a) G env → Means F (sight a) G is found → Means F (sight a) G want wanted →
     Carried F scope (λ c. demand s at (equal (is c.chosen) (want c.chosen)) ∷ []) (sight a) G (sight b) G
 
 -- the same where a type is wanted; else all stays as it is
-abbrev pub AsksEqualIf : (a b : Parts) → Place → ℕ → Option NodeRef → Type 0
-AsksEqualIf a b at found None = b ≡ a
-AsksEqualIf a b at found (Some wanted) = AsksEqual a b at found wanted.0
+abbrev pub AsksEqualIf : (a b : Parts) → List Entry → Place → ℕ → Option NodeRef → Type 0
+AsksEqualIf a b env at found None = b ≡ a
+AsksEqualIf a b env at found (Some wanted) = AsksEqual a b env at found wanted.0
 
 -- a path of the code as the definitions take it
 abbrev pub path_as : parts.Written → Written

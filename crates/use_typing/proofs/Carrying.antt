@@ -184,27 +184,27 @@ module _ (a : Parts) (negated : Bool) (o : Option (Bor Token)) (t : Bor Token) (
   -- constants without a demand
   pub float_typed : t.now.kind ≡ code.Float → TypesConstant negated o a a a.constants.float.0
   unfolding constant_by kind_of
-  float_typed e = of_token a a.constants.float.0 (λ env n. subst (λ k. TypesRow a a env (constant_by negated (kind_of k) n (view.tok_of t.now)) n a.constants.float.0) (sym e) (λ aloud F scope G at. fixed_row n carried_refl at.fixed.float))
+  float_typed e = of_token a a.constants.float.0 (λ env n. subst (λ k. TypesRow a a env (constant_by negated (kind_of k) n (view.tok_of t.now)) n a.constants.float.0) (sym e) (λ aloud F scope G its at. fixed_row n carried_refl at.fixed.float))
 
   pub char_typed : t.now.kind ≡ code.Char → TypesConstant negated o a a a.constants.char.0
   unfolding constant_by kind_of
-  char_typed e = of_token a a.constants.char.0 (λ env n. subst (λ k. TypesRow a a env (constant_by negated (kind_of k) n (view.tok_of t.now)) n a.constants.char.0) (sym e) (λ aloud F scope G at. fixed_row n carried_refl at.fixed.char))
+  char_typed e = of_token a a.constants.char.0 (λ env n. subst (λ k. TypesRow a a env (constant_by negated (kind_of k) n (view.tok_of t.now)) n a.constants.char.0) (sym e) (λ aloud F scope G its at. fixed_row n carried_refl at.fixed.char))
 
   pub string_typed : t.now.kind ≡ code.Str → TypesConstant negated o a a a.constants.string.0
   unfolding constant_by kind_of
-  string_typed e = of_token a a.constants.string.0 (λ env n. subst (λ k. TypesRow a a env (constant_by negated (kind_of k) n (view.tok_of t.now)) n a.constants.string.0) (sym e) (λ aloud F scope G at. fixed_row n carried_refl at.fixed.string))
+  string_typed e = of_token a a.constants.string.0 (λ env n. subst (λ k. TypesRow a a env (constant_by negated (kind_of k) n (view.tok_of t.now)) n a.constants.string.0) (sym e) (λ aloud F scope G its at. fixed_row n carried_refl at.fixed.string))
 
   pub unit_typed : t.now.kind ≡ code.Unit → TypesConstant negated o a a a.constants.unit.0
   unfolding constant_by kind_of
-  unit_typed e = of_token a a.constants.unit.0 (λ env n. subst (λ k. TypesRow a a env (constant_by negated (kind_of k) n (view.tok_of t.now)) n a.constants.unit.0) (sym e) (λ aloud F scope G at. fixed_row n carried_refl at.fixed.unit))
+  unit_typed e = of_token a a.constants.unit.0 (λ env n. subst (λ k. TypesRow a a env (constant_by negated (kind_of k) n (view.tok_of t.now)) n a.constants.unit.0) (sym e) (λ aloud F scope G its at. fixed_row n carried_refl at.fixed.unit))
 
   true_typed : t.now.kind ≡ code.True → TypesConstant negated o a a a.constants.bool.0
   unfolding constant_by kind_of
-  true_typed e = of_token a a.constants.bool.0 (λ env n. subst (λ k. TypesRow a a env (constant_by negated (kind_of k) n (view.tok_of t.now)) n a.constants.bool.0) (sym e) (λ aloud F scope G at. fixed_row n carried_refl at.fixed.bool))
+  true_typed e = of_token a a.constants.bool.0 (λ env n. subst (λ k. TypesRow a a env (constant_by negated (kind_of k) n (view.tok_of t.now)) n a.constants.bool.0) (sym e) (λ aloud F scope G its at. fixed_row n carried_refl at.fixed.bool))
 
   false_typed : t.now.kind ≡ code.False → TypesConstant negated o a a a.constants.bool.0
   unfolding constant_by kind_of
-  false_typed e = of_token a a.constants.bool.0 (λ env n. subst (λ k. TypesRow a a env (constant_by negated (kind_of k) n (view.tok_of t.now)) n a.constants.bool.0) (sym e) (λ aloud F scope G at. fixed_row n carried_refl at.fixed.bool))
+  false_typed e = of_token a a.constants.bool.0 (λ env n. subst (λ k. TypesRow a a env (constant_by negated (kind_of k) n (view.tok_of t.now)) n a.constants.bool.0) (sym e) (λ aloud F scope G its at. fixed_row n carried_refl at.fixed.bool))
 
   pub bool_typed : (t.now.kind ≡ code.True) ⊎ (t.now.kind ≡ code.False) → TypesConstant negated o a a a.constants.bool.0
   bool_typed (inl e) = true_typed e
@@ -213,7 +213,7 @@ module _ (a : Parts) (negated : Bool) (o : Option (Bor Token)) (t : Bor Token) (
   -- an integer, with its demand
   pub int_typed : (b : Parts) → t.now.kind ≡ code.Int → TestedAs (in_range negated (view.tok_of t.now).name) a b t.now.span fault.Range too_large_text → TypesConstant negated o a b b.constants.int.0
   unfolding constant_by kind_of
-  int_typed b e tested = of_token b b.constants.int.0 (λ env n. subst (λ k. TypesRow a b env (constant_by negated (kind_of k) n (view.tok_of t.now)) n b.constants.int.0) (sym e) (λ aloud F scope G s.
+  int_typed b e tested = of_token b b.constants.int.0 (λ env n. subst (λ k. TypesRow a b env (constant_by negated (kind_of k) n (view.tok_of t.now)) n b.constants.int.0) (sym e) (λ aloud F scope G its s.
       let judged = test_asked a b {F = F} {scope = scope} {G = G} {at = t.now.span} too_large (site n 0) (in_range negated (view.tok_of t.now).name) aloud tested in
       fixed_row n judged.carried (fixed_on judged.carried.stays s.fixed).int))
 
@@ -238,7 +238,7 @@ missing_typed (Ok m) a b negated o e h rest = subst (λ p. TypesConstant negated
 pub list_typed : (r : Result NodeRef AllocError) (a b d : Parts) (v : ℕ) → MakesVar a b v any_scope → OnlyStore a b → IfOk r (λ m. IsNode b.store.nodes v → Makes b.store d.store m.0 (Con list_path (codes "list") (v ∷ []))) → OnlyStore b d →
     IfOk r (λ m. (env : List Entry) (n : ℕ) → TypesRow a d env (λ c. same (type_at c n) (list_type (letter c n 0)) ∷ []) n m.0)
 list_typed (Err x) a b d v made rest over rest' = tt
-list_typed (Ok m) a b d v made rest over rest' = λ env n aloud F scope G s.
+list_typed (Ok m) a b d v made rest over rest' = λ env n aloud F scope G its s.
     let element = var_made a b {scope = scope} (chosen_letter n 0) (λ t. tt) s.reached made rest in
     record {
       own = (chosen_letter n 0, v) ∷ [];

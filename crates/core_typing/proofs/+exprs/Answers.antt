@@ -7,8 +7,9 @@ use Rattle.syntax_tree.specs.declared.tree.Node.{out-Node}
 use Rattle.row_parts.specs.Numbered.{operand_view, path_view, operands_in}
 use Rattle.typing_state.proofs.Going.{goes_trans, goes_refl}
 use Rattle.typing_state.proofs.Silence.{store_silent, index_silent}
-use Rattle.expression_steps.specs.Forms.{row_at, form_of}
-use Rattle.expression_steps.proofs.Nodes.{row_of_node}
+use Rattle.value_forms.specs.Heads.{row_at}
+use Rattle.value_forms.proofs.Nodes.{row_of_node, rows_same}
+use Rattle.expression_steps.specs.Forms.{form_of}
 use Rattle.match_warnings.specs.Warnings.{spans_of}
 use Rattle.core_typing.specs.Cases.{places_there}
 use Rattle.core_typing.proofs.CasePlaces.{places_read, places_done, place_added, place_same, cases_warned}
@@ -58,7 +59,6 @@ use Rattle.binding_rows.proofs.Ordered.{cases_none, cases_all}
 use Rattle.binding_rows.proofs.CaseNodes.{match_node, function_node, fun_node}
 use Rattle.binding_rows.proofs.CaseOperands.{case_missing, case_there as case_found, guard_typed, operands_typed}
 use Rattle.binding_rows.proofs.Cases.{guard_none}
-use Rattle.expression_steps.proofs.CarryingLaws.{rows_same}
 use Rattle.binding_steps.specs.Sides.{sides_by}
 use Rattle.core_typing.proofs.CaseLaws.{node_if, by_match, by_function, by_fun, case_step, match_row, function_row, fun_row, cases_row, case_node, body_by, typed_unasked}
 use Rattle.pattern_typing.specs.Matching.{names_seen}
@@ -238,7 +238,7 @@ functions::function-returns-clause-carries t c = λ place node.
 
 pub exprs::typed_as-returns-clause-typed : goal.exprs::typed_as-returns-clause-typed
 exprs::typed_as-returns-clause-typed t c = λ none carried.
-    typed_unasked c.args.at.now c.type_under.new.at c.equal_if.new.at c.args.scope.now (expression_of c.args.at.now.item (operand_view c.args.e)) (place_of c.args.e.span) c.in_ok-ty.ty.0 c.args.wanted none (c.in_ok-ty.ensures.carries carried) c.in_ok-equal_if.ensures.carries
+    typed_unasked c.args.at.now c.type_under.new.at c.equal_if.new.at c.args.env.now (expression_of c.args.at.now.item (operand_view c.args.e)) (place_of c.args.e.span) c.in_ok-ty.ty.0 c.args.wanted none (c.in_ok-ty.ensures.carries carried) c.in_ok-equal_if.ensures.carries
 
 pub cases::type_case-returns-in_default-clause-spans : goal.cases::type_case-returns-in_default-clause-spans
 cases::type_case-returns-in_default-clause-spans t c = place_same (spans_of c.args.rows.now) c.args.case c.in_default.is
@@ -319,7 +319,7 @@ bindings::turn-returns-clause-carries t c =
 
 pub bindings::turn-returns-clause-general : goal.bindings::turn-returns-clause-general
 bindings::turn-returns-clause-general t c =
-    IfOk-weaker c.conclude.result _ _ (λ b h. turn_judged c.open_pattern.new.at c.conclude.new.at c.args.env.now c.args.binding c.in_ok-opened.opened c.in_ok-side.side b c.in_ok-opened.ensures.binding h) c.conclude.ensures.carries
+    IfOk-weaker c.conclude.result _ _ (λ b h. turn_judged c.open_pattern.new.at c.conclude.new.at c.args.env.now c.args.env.now c.args.binding c.in_ok-opened.opened c.in_ok-side.side b c.in_ok-opened.ensures.binding h) c.conclude.ensures.carries
 
 pub bindings::take_turn-returns-in_default-clause-carries : goal.bindings::take_turn-returns-in_default-clause-carries
 bindings::take_turn-returns-in_default-clause-carries t c = turn_missing c.args.at.now c.args.env.now c.args.binding (names_seen c.args.seen.now.items) (map typed_of c.args.bound.now.items) c.in_default.is
@@ -544,7 +544,7 @@ apply::application-returns-clause-carries t c =
 
 pub exprs::typed_as-returns-clause-carries : goal.exprs::typed_as-returns-clause-carries
 exprs::typed_as-returns-clause-carries t c = λ carried.
-    typed_where_wanted c.args.at.now c.type_under.new.at c.equal_if.new.at c.args.scope.now (operand_view c.args.e) c.in_ok-ty.ty.0 c.args.wanted (c.in_ok-ty.ensures.carries carried) c.type_under.ensures.goes c.in_ok-equal_if.ensures.carries
+    typed_where_wanted c.args.at.now c.type_under.new.at c.equal_if.new.at c.args.env.now (operand_view c.args.e) c.in_ok-ty.ty.0 c.args.wanted (c.in_ok-ty.ensures.carries carried) c.type_under.ensures.goes c.in_ok-equal_if.ensures.carries
 
 pub apply::with_argument-returns-clause-carries : goal.apply::with_argument-returns-clause-carries
 apply::with_argument-returns-clause-carries t c =

@@ -3,7 +3,7 @@ ghost use Rattle.std.specs.Prelude.{◌≡◌, ◌+◌, ◌-◌, ◌≤◌, ℕ,
 ghost use Rattle.token_model.specs.Kinds.{Tok};
 ghost use Rattle.token_model.specs.Tokens.{Lex};
 ghost use Rattle.typing_model.specs.Typable.{AreTypable};
-ghost use Rattle.fault_model.specs.Refused.{standing, AreOfValues, AreRefused};
+ghost use Rattle.fault_model.specs.Refused.{AreOfValues, AreRefused};
 ghost use Rattle.syntax_tree.specs.Tallies.{Grows};
 ghost use Rattle.syntax_tree.specs.View.{trees_of};
 ghost use Rattle.analysis_api.specs.Types.{AreTyped, AreSettled};
@@ -25,7 +25,7 @@ impl<'a, A: Analyser> Found<'a, A> {
     pub fn analysis(&self) -> Analysis<'_>
         ensures found { IsOf A.items A.finds (items_in A.items self.now) result }
         ensures silent { AreTypable (items_in A.items self.now) → are_warnings result.faults.now.list.items ≡ true }
-        ensures refused { AreOfValues (items_in A.items self.now) → ∥ AreRefused (items_in A.items self.now) (standing (map typer_fault_of result.faults.now.list.items)) ∥₁ }
+        ensures refused { AreOfValues (items_in A.items self.now) → ∥ AreRefused (items_in A.items self.now) (map typer_fault_of result.faults.now.list.items) ∥₁ }
         ensures typed { AreOfValues (items_in A.items self.now) → ∥ AreTyped (items_in A.items self.now) result ∥₁ }
         ensures settled { holds_in A.is_settled self.now → AreOfValues (items_in A.items self.now) → ∥ AreSettled (items_in A.items self.now) result ∥₁ }
     {

@@ -14,8 +14,8 @@ returns-in_ok-equal-in-Some-clause-carries c =
     let ms = numbers c.args.parameters.now in
     let o = operand_view c.args.body in
     IfOk-weaker c.arrows.result _ _ (λ m made.
-    subst (λ w. MakesWholeOf c.args.at.now c.arrows.new.at o (option_map (λ (n : NodeRef). n.0) w) ms c.args.right.0 m.0) (sym c.in-Some.is)
-    (whole_of_written c.args.at.now c.equal.new.self c.arrows.new.at o c.in-Some.annotation.0 ms c.args.right.0 m.0
+    subst (λ w. MakesWholeOf c.args.at.now c.arrows.new.at c.args.env.now o (option_map (λ (n : NodeRef). n.0) w) ms c.args.right.0 m.0) (sym c.in-Some.is)
+    (whole_of_written c.args.at.now c.equal.new.self c.arrows.new.at c.args.env.now o c.in-Some.annotation.0 ms c.args.right.0 m.0
     (equal_asks c.args.at.now c.equal.new.self c.args.env.now _ c.in_ok-equal-in-Some.ensures.verdict c.equal.ensures.rest c.equal.ensures.goes) made)) c.arrows.ensures.carries
 
 pub returns-in-None-clause-carries : goal.returns-in-None-clause-carries
@@ -23,5 +23,5 @@ returns-in-None-clause-carries c =
     let ms = numbers c.args.parameters.now in
     let o = operand_view c.args.body in
     IfOk-weaker c.arrows-in-None.result _ _ (λ m made.
-    subst (λ w. MakesWholeOf c.args.at.now c.arrows-in-None.new.at o (option_map (λ (n : NodeRef). n.0) w) ms c.args.right.0 m.0) (sym c.in-None.is) (whole_of_body c.args.at.now c.arrows-in-None.new.at o ms c.args.right.0 m.0 made))
+    subst (λ w. MakesWholeOf c.args.at.now c.arrows-in-None.new.at c.args.env.now o (option_map (λ (n : NodeRef). n.0) w) ms c.args.right.0 m.0) (sym c.in-None.is) (whole_of_body c.args.at.now c.arrows-in-None.new.at c.args.env.now o ms c.args.right.0 m.0 made))
     c.arrows-in-None.ensures.carries

@@ -5,7 +5,7 @@ use Rattle.type_nodes.specs.Views.{numbers}
 use Rattle.row_parts.specs.Numbered.{operand_view}
 use Rattle.typing_rows.specs.Asked.{expressions_of, ordered_end}
 use Rattle.typing_rows.specs.Contracts.{EndsRow}
-use Rattle.expression_steps.specs.Forms.{row_at}
+use Rattle.value_forms.specs.Heads.{row_at}
 use Rattle.expression_steps.proofs.EndingLaws.{field_end, plain_end}
 use Rattle.expression_steps.proofs.ends.behind_parts.Goals as goal
 

@@ -6,7 +6,8 @@ use Rattle.row_parts.specs.Numbered.{operand_view}
 use Rattle.typing_rows.specs.Asked.{expressions_of}
 use Rattle.typing_steps.proofs.Rows.{var_any}
 use Rattle.expression_steps.proofs.CarryingLaws.{number_here, number_missing, past_end}
-use Rattle.expression_steps.proofs.EndingLaws.{parts_count, else_ends, then_ends, if_empty}
+use Rattle.value_forms.proofs.Nodes.{parts_count}
+use Rattle.expression_steps.proofs.EndingLaws.{else_ends, then_ends, if_empty}
 use Rattle.expression_steps.proofs.ends.branches.Goals as goal
 
 pub returns-in_ok-has-clause-carries : goal.returns-in_ok-has-clause-carries

@@ -6,7 +6,7 @@ use Rattle.syntax_tree.specs.View.{node_view}
 use Rattle.row_parts.specs.Numbered.{path_view}
 use Rattle.operand_laws.specs.Operands.{number_of}
 use Rattle.use_typing.specs.Constants.{is_negated}
-use Rattle.expression_steps.specs.Heads.{constructor_at}
+use Rattle.value_forms.specs.Heads.{constructor_at}
 use Rattle.expression_steps.proofs.ConstructorLaws.{leaf_constructor}
 use Rattle.expression_steps.proofs.leaves.leaf.Goals as goal
 

@@ -9,8 +9,9 @@ use Rattle.typing_steps.specs.Typing.{TypesOwn, TypesRow, path_as}
 use Rattle.use_typing.specs.Constants.{is_negated}
 use Rattle.typing_rows.specs.Asked.{under_minus, row_expression}
 use Rattle.typing_rows.proofs.Typed.{named_row, path_row, constant_row, hole_any}
-use Rattle.expression_steps.specs.Forms.{row_at, value_in}
-use Rattle.expression_steps.proofs.CarryingLaws.{rows_same}
+use Rattle.value_forms.specs.Heads.{row_at}
+use Rattle.value_forms.proofs.Nodes.{rows_same}
+use Rattle.expression_steps.specs.Forms.{value_in}
 use Rattle.expression_steps.proofs.ConstructorLaws.{no_upper}
 use Rattle.expression_steps.proofs.EndingLaws.{any_value, value_tells, leaf_name, leaf_path, leaf_constant, leaf_hole}
 use Rattle.expression_steps.proofs.leaves.leaf_value.Goals as goal

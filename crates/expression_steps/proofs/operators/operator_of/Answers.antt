@@ -1,8 +1,8 @@
 use Rattle.std.proofs.Common.{sym, subst}
 use Rattle.syntax_tree.specs.View.{node_view, tok_of}
-use Rattle.expression_steps.specs.Forms.{row_at}
+use Rattle.value_forms.specs.Heads.{row_at}
+use Rattle.value_forms.proofs.Nodes.{row_of_node}
 use Rattle.expression_steps.specs.Operators.{IsSignOf, IsOperator}
-use Rattle.expression_steps.proofs.Nodes.{row_of_node}
 use Rattle.expression_steps.proofs.CarryingLaws.{some_none}
 use Rattle.expression_steps.proofs.operators.operator_of.Goals as goal
 

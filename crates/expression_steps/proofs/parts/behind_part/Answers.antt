@@ -5,7 +5,7 @@ use Rattle.row_parts.specs.Numbered.{operand_view}
 use Rattle.operand_laws.specs.Operands.{expression_of}
 use Rattle.typing_rows.specs.Asked.{wants_bool}
 use Rattle.typing_rows.proofs.Ordered.{behind_bool, behind_none}
-use Rattle.expression_steps.proofs.CarryingLaws.{false_at}
+use Rattle.value_forms.proofs.FalseLaws.{false_at}
 use Rattle.expression_steps.proofs.EndingLaws.{on_more}
 use Rattle.expression_steps.proofs.parts.behind_part.Goals as goal
 

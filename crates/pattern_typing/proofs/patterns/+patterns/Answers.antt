@@ -470,8 +470,8 @@ alternatives-returns t c =
       names = subst (λ ss. Binds c.args.names.now.items c.first_side.new.names.items (names_of_first ss)) c.in_ok-sides.ensures.sides c.in_ok-first.ensures.names;
       goes = goes_trans c.args.at.now c.sides_in.new.at c.note_type.new.self c.sides_in.ensures.goes (goes_trans c.sides_in.new.at c.compare_sides.new.at c.note_type.new.self c.compare_sides.ensures.goes (goes_trans c.compare_sides.new.at c.first_side.new.at c.note_type.new.self c.first_side.ensures.goes c.note_type.ensures.goes));
       carries = or_matches c.args.at.now c.sides_in.new.at c.first_side.new.at c.note_type.new.self c.args.env.now n tree c.in_ok-first.first (binds_of c.args.names.now.items) (binds_of c.first_side.new.names.items) (names_seen c.args.seen.now.items) (names_seen c.sides_in.new.seen.items) (map side_of c.in_ok-sides.sides.items) c.in_ok-sides.ensures.carries c.sides_in.ensures.goes
-          (sides_compared c.sides_in.new.at c.compare_sides.new.at c.first_side.new.at (all_operands n tree) c.in_ok-sides.sides.items c.in_ok-first.first.0 c.args.names.now.items c.first_side.new.names.items c.in_ok-sides.ensures.parts
-          (subst (λ ss. (i : ℕ) (x : Side) (xs : List Side) (o : Numbered) (os : List Numbered) → map side_of ss ≡ x ∷ xs → parts_of_sides ss ≡ o ∷ os → AsksLater c.sides_in.new.at c.compare_sides.new.at x xs (patterns_of i os)) c.deref.ensures.value c.in_ok-compare_sides.ensures.carries)
+          (sides_compared c.sides_in.new.at c.compare_sides.new.at c.first_side.new.at c.args.env.now (all_operands n tree) c.in_ok-sides.sides.items c.in_ok-first.first.0 c.args.names.now.items c.first_side.new.names.items c.in_ok-sides.ensures.parts
+          (subst (λ ss. (i : ℕ) (x : Side) (xs : List Side) (o : Numbered) (os : List Numbered) → map side_of ss ≡ x ∷ xs → parts_of_sides ss ≡ o ∷ os → AsksLater c.sides_in.new.at c.compare_sides.new.at c.args.env.now x xs (patterns_of i os)) c.deref.ensures.value c.in_ok-compare_sides.ensures.carries)
           c.in_ok-first.ensures.first)
           (goes_trans c.sides_in.new.at c.compare_sides.new.at c.first_side.new.at c.compare_sides.ensures.goes c.first_side.ensures.goes) c.in_ok-note_type.ensures.noted c.note_type.ensures.rest;
     }

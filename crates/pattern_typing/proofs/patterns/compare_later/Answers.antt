@@ -15,7 +15,7 @@ loop-side-preserved c =
     let lt : i < length all = let n = c.loop-side-test.true in omega arith in
     record {
       goes = goes_trans c.args.at.now c.loop-side.at c.compare_side.new.at c.loop-side.invariant.goes c.compare_side.ensures.goes;
-      carries = λ k. later_step c.args.at.now c.loop-side.at c.compare_side.new.at (side_of c.args.first.now) all i x k lt c.side-item.is c.loop-side.invariant.goes (c.loop-side.invariant.carries k) c.in_ok-compare_side.ensures.carries;
+      carries = λ k. later_step c.args.at.now c.loop-side.at c.compare_side.new.at c.args.env.now (side_of c.args.first.now) all i x k lt c.side-item.is c.loop-side.invariant.goes (c.loop-side.invariant.carries k) c.in_ok-compare_side.ensures.carries;
     }
 
 pub loop-side-init : goal.loop-side-init
@@ -23,7 +23,7 @@ loop-side-init c =
     let all = c.args.sides.now in
     record {
       goes = goes_refl c.args.at.now;
-      carries = λ k. later_none c.args.at.now (side_of c.args.first.now) (map side_of all) (patterns_of k (parts_of_sides all));
+      carries = λ k. later_none c.args.at.now c.args.env.now (side_of c.args.first.now) (map side_of all) (patterns_of k (parts_of_sides all));
     }
 
 pub returns-clause-carries : goal.returns-clause-carries
@@ -31,7 +31,7 @@ returns-clause-carries c = λ k.
     let all = c.args.sides.now in
     let i = c.loop-side.side-index in
     let none : drop i all ≡ [] = drop_all i all (let n = c.loop-side-test.false in omega arith) in
-    later_all c.args.at.now c.loop-side.at (side_of c.args.first.now) (map side_of all) (map side_of (drop i all)) (patterns_of k (parts_of_sides all)) (patterns_of k (parts_of_sides (drop i all))) (ap (λ ss. patterns_of k (parts_of_sides ss)) none) (c.loop-side.invariant.carries k)
+    later_all c.args.at.now c.loop-side.at c.args.env.now (side_of c.args.first.now) (map side_of all) (map side_of (drop i all)) (patterns_of k (parts_of_sides all)) (patterns_of k (parts_of_sides (drop i all))) (ap (λ ss. patterns_of k (parts_of_sides ss)) none) (c.loop-side.invariant.carries k)
 
 pub returns-clause-goes : goal.returns-clause-goes
 returns-clause-goes c = c.loop-side.invariant.goes

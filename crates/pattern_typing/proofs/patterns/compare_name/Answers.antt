@@ -7,11 +7,11 @@ use Rattle.pattern_typing.proofs.patterns.compare_name.Goals as goal
 
 pub returns-in_ok-equal-clause-carries : goal.returns-in_ok-equal-clause-carries
 returns-in_ok-equal-clause-carries c =
-    name_common c.args.at.now c.equal.new.self (bind_of c.args.name.now) (bind_of c.in-Some.other.now) (binds_of c.args.later.now) (sym c.find.ensures.found ∙ ap (option_map (λ b. bind_of b.now)) c.in-Some.is)
+    name_common c.args.at.now c.equal.new.self c.args.env.now (bind_of c.args.name.now) (bind_of c.in-Some.other.now) (binds_of c.args.later.now) (sym c.find.ensures.found ∙ ap (option_map (λ b. bind_of b.now)) c.in-Some.is)
     (equal_asks c.args.at.now c.equal.new.self c.args.env.now _ c.in_ok-equal.ensures.verdict c.equal.ensures.rest c.equal.ensures.goes)
 
 pub returns-in_default-clause-carries : goal.returns-in_default-clause-carries
-returns-in_default-clause-carries c = name_alone c.args.at.now (bind_of c.args.name.now) (binds_of c.args.later.now) (sym c.find.ensures.found ∙ ap (option_map (λ b. bind_of b.now)) c.in_default.is)
+returns-in_default-clause-carries c = name_alone c.args.at.now c.args.env.now (bind_of c.args.name.now) (binds_of c.args.later.now) (sym c.find.ensures.found ∙ ap (option_map (λ b. bind_of b.now)) c.in_default.is)
 
 pub returns-in_default-clause-goes : goal.returns-in_default-clause-goes
 returns-in_default-clause-goes c = goes_refl c.args.at.now

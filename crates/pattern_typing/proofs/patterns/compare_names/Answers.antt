@@ -14,13 +14,13 @@ loop-name-preserved c =
     let lt : i < length all = let n = c.loop-name-test.true in omega arith in
     record {
       goes = goes_trans c.args.at.now c.loop-name.at c.compare_name.new.at c.loop-name.invariant.goes c.compare_name.ensures.goes;
-      carries = name_step c.args.at.now c.loop-name.at c.compare_name.new.at all i x (binds_of c.args.later.now) lt c.name-item.is c.loop-name.invariant.goes c.loop-name.invariant.carries c.in_ok-compare_name.ensures.carries;
+      carries = name_step c.args.at.now c.loop-name.at c.compare_name.new.at c.args.env.now all i x (binds_of c.args.later.now) lt c.name-item.is c.loop-name.invariant.goes c.loop-name.invariant.carries c.in_ok-compare_name.ensures.carries;
     }
 
 pub loop-name-init : goal.loop-name-init
 loop-name-init c = record {
   goes = goes_refl c.args.at.now;
-  carries = names_none c.args.at.now (binds_of c.args.first.now) (binds_of c.args.later.now);
+  carries = names_none c.args.at.now c.args.env.now (binds_of c.args.first.now) (binds_of c.args.later.now);
 }
 
 pub returns-clause-carries : goal.returns-clause-carries
@@ -28,7 +28,7 @@ returns-clause-carries c =
     let all = c.args.first.now in
     let i = c.loop-name.name-index in
     let none : drop i all ≡ [] = drop_all i all (let n = c.loop-name-test.false in omega arith) in
-    names_all c.args.at.now c.loop-name.at (binds_of all) (binds_of (drop i all)) (binds_of c.args.later.now) (ap binds_of none) c.loop-name.invariant.carries
+    names_all c.args.at.now c.loop-name.at c.args.env.now (binds_of all) (binds_of (drop i all)) (binds_of c.args.later.now) (ap binds_of none) c.loop-name.invariant.carries
 
 pub returns-clause-goes : goal.returns-clause-goes
 returns-clause-goes c = c.loop-name.invariant.goes

@@ -9,8 +9,8 @@ use Rattle.pattern_typing.proofs.patterns.compare_side.Goals as goal
 
 pub returns-clause-carries : goal.returns-clause-carries
 returns-clause-carries c =
-    beside c.args.at.now c.ask_sides.new.at c.compare_names.new.at c.equal.new.self (side_of c.args.first.now) (side_of c.args.side.now) (place_of c.args.side.now.part.span) c.in_ok-ask_sides.ensures.carries c.ask_sides.ensures.goes
-    (subst (λ xs. AsksNames c.ask_sides.new.at c.compare_names.new.at (binds_of xs) (binds_of c.args.side.now.names.items)) c.deref.ensures.value (subst (λ ys. AsksNames c.ask_sides.new.at c.compare_names.new.at (binds_of c.deref.result.now) (binds_of ys)) c.deref-2.ensures.value c.in_ok-compare_names.ensures.carries))
+    beside c.args.at.now c.ask_sides.new.at c.compare_names.new.at c.equal.new.self c.args.env.now (side_of c.args.first.now) (side_of c.args.side.now) (place_of c.args.side.now.part.span) c.in_ok-ask_sides.ensures.carries c.ask_sides.ensures.goes
+    (subst (λ xs. AsksNames c.ask_sides.new.at c.compare_names.new.at c.args.env.now (binds_of xs) (binds_of c.args.side.now.names.items)) c.deref.ensures.value (subst (λ ys. AsksNames c.ask_sides.new.at c.compare_names.new.at c.args.env.now (binds_of c.deref.result.now) (binds_of ys)) c.deref-2.ensures.value c.in_ok-compare_names.ensures.carries))
     c.compare_names.ensures.goes (equal_asks c.compare_names.new.at c.equal.new.self c.args.env.now _ c.in_ok-equal.ensures.verdict c.equal.ensures.rest c.equal.ensures.goes)
 
 pub returns-clause-goes : goal.returns-clause-goes

@@ -8,7 +8,7 @@ use Rattle.pattern_typing.proofs.patterns.compare_sides.Goals as goal
 
 pub returns-in-Some-clause-carries : goal.returns-in-Some-clause-carries
 returns-in-Some-clause-carries c =
-    on_ok c.compare_later.result _ _ (λ h. later_asked c.args.at.now c.compare_later.new.at c.args.sides.now c.in-Some.rest.now c.in-Some.first.now c.in-Some.ensures.cases.0 h) c.compare_later.ensures.carries
+    on_ok c.compare_later.result _ _ (λ h. later_asked c.args.at.now c.compare_later.new.at c.args.env.now c.args.sides.now c.in-Some.rest.now c.in-Some.first.now c.in-Some.ensures.cases.0 h) c.compare_later.ensures.carries
 
 pub returns-in-None-clause-carries : goal.returns-in-None-clause-carries
 returns-in-None-clause-carries c = λ i x xs o os sides parts. absurd (let none : [] ≡ x ∷ xs = sym (ap (map side_of) (nil_from_length c.args.sides.now c.in-None.ensures.cases)) ∙ sides in cc)

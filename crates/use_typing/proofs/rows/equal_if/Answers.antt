@@ -6,11 +6,11 @@ use Rattle.typing_steps.proofs.Rows.{equal_asks}
 use Rattle.use_typing.proofs.rows.equal_if.Goals as goal
 
 pub returns-in_default-clause-carries : goal.returns-in_default-clause-carries
-returns-in_default-clause-carries c = subst (λ o. AsksEqualIf c.args.at.now c.args.at.now (place_of c.args.span) c.args.found.0 o) (sym c.in_default.is) refl
+returns-in_default-clause-carries c = subst (λ o. AsksEqualIf c.args.at.now c.args.at.now c.args.env.now (place_of c.args.span) c.args.found.0 o) (sym c.in_default.is) refl
 
 pub returns-clause-carries : goal.returns-clause-carries
 returns-clause-carries c =
-    subst (λ o. AsksEqualIf c.args.at.now c.equal.new.self (place_of c.args.span) c.args.found.0 o) (sym c.in-Some.is)
+    subst (λ o. AsksEqualIf c.args.at.now c.equal.new.self c.args.env.now (place_of c.args.span) c.args.found.0 o) (sym c.in-Some.is)
     (equal_asks c.args.at.now c.equal.new.self c.args.env.now c.in_ok-equal.field-0 c.in_ok-equal.ensures.verdict c.equal.ensures.rest c.equal.ensures.goes)
 
 pub returns-clause-goes : goal.returns-clause-goes

@@ -1,7 +1,7 @@
 use Rattle.std.proofs.Common.{◌≡◌, List, ℕ, ◌∙◌, ap, map, sym, subst, true}
 use Rattle.tree_model.specs.Trees.{Tree}
 use Rattle.typing_model.specs.Typable.{AreTypable}
-use Rattle.fault_model.specs.Refused.{standing, AreOfValues, AreRefused}
+use Rattle.fault_model.specs.Refused.{AreOfValues, AreRefused}
 use Rattle.token_store.specs.Stored.{toks_of}
 use Rattle.kept_text.specs.Keeping.{trees_in}
 use Rattle.analysis_api.specs.Types.{AreTyped}
@@ -37,7 +37,7 @@ pub returns-clause-refused : goal.returns-clause-refused
 returns-clause-refused g c =
     let typer = c.in-Some-Some.typer.now in
     let holds = bound_items (g.A.Analyser.items typer) (trees_in c.self.inside.kept.tokens) (known g.A.Analyser.items c.self.inside.types) c.in-Some-Some.ensures'.known c.self.invariant.are in
-    subst (λ (ts : List Tree). AreOfValues ts → ∥ AreRefused ts (standing (map typer_fault_of c.found.result.faults.now.list.items)) ∥₁) (holds ∙ sym c.in-Some-Some.ensures.tree) c.found.ensures.refused
+    subst (λ (ts : List Tree). AreOfValues ts → ∥ AreRefused ts (map typer_fault_of c.found.result.faults.now.list.items) ∥₁) (holds ∙ sym c.in-Some-Some.ensures.tree) c.found.ensures.refused
 
 pub returns-clause-typed : goal.returns-clause-typed
 returns-clause-typed g c =

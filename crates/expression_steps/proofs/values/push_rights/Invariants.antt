@@ -1,7 +1,0 @@
-use Rattle.std.proofs.Common.{drop}
-use Rattle.typing_rows.specs.Valued.{rights_of}
-use Rattle.expression_steps.proofs.ValueLaws.{LeftToAdd}
-use Rattle.expression_steps.proofs.values.push_rights.Given as goal
-
-abbrev pub invariant-loop-binding : goal.invariant-loop-binding
-invariant-loop-binding l = LeftToAdd rights_of l.bindings (drop l.binding-index l.bindings) l.fn.parts.items l.parts.items

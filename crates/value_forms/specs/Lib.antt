@@ -1,0 +1,3 @@
+-- What operands of expressions are, and the labels and values of records.
+pub mod Heads
+pub mod RecordValues
