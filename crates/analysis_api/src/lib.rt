@@ -2,19 +2,17 @@
 //! It keeps nothing itself, and knows nothing of how types are found: the typer is one `Analyser`, and a session takes any.
 //! It is built on the tables that an analysis fills: the nodes of types, environments, and the records of a tree's nodes.
 //! The layer above may use the fields of an `Analysis`, and an `Analyser`: `refresh` says which trees it holds, and that each item
-//! is counted as typed but for those at the front that are as they were, and no others; `found` that items which can be typed have no faults, and which faults and which types items of `let` have, and which of their variables are weak.
+//! is counted as typed but for those at the front that are as they were, and no others; `found` which faults and which types items of `let` have, and which of their variables are weak.
 #![tactic(auto)]
 
 ghost use Rattle.std.specs.Prelude.{◌≡◌, ℕ, List, [], ◌+◌, ◌-◌, ◌≤◌, length, map, true, IfOk, OnOk, OnErr};
 ghost use Rattle.token_model.specs.Kinds.{Tok};
 ghost use Rattle.token_model.specs.Tokens.{Lex};
-ghost use Rattle.typing_model.specs.Typable.{AreTypable};
 ghost use Rattle.fault_model.specs.Refused.{AreOfValues, AreRefused};
 ghost use Rattle.syntax_tree.specs.Tallies.{Grows};
 ghost use Rattle.syntax_tree.specs.View.{trees_of};
 ghost use Rattle.analysis_api.specs.Typed.{more_typed, GoesOn, LongestFront, SameFront};
 ghost use Rattle.analysis_api.specs.Faults.{typer_fault_of};
-ghost use Rattle.analysis_api.specs.Warnings.{are_warnings};
 ghost use Rattle.analysis_api.specs.Types.{AreTyped, AreSettled};
 
 use env_table::{Env, Faults, Seen};
@@ -82,13 +80,12 @@ pub trait Analyser: Drop {
         ensures unshifted { (C.tallies counts.new).shifted ≡ (C.tallies counts.old).shifted }
         ensures grows { Grows (C.tallies counts.old) (C.tallies counts.new) };
 
-    /// What is found of the items that it holds, after a `refresh` that succeeded. Of items that can be typed, which are `let` and `;;` alone,
-    /// these are warnings and no faults; and of items that are `let` and `;;` the faults are those of the demands that aren't kept, in order,
+    /// What is found of the items that it holds, after a `refresh` that succeeded. Of items that are `let`, `;;` and exceptions without an argument
+    /// the faults but for warnings are those of the demands that aren't kept, in order, so that such items that can be typed have none;
     /// and what is recorded for expressions and patterns are the types of a principal typing; after a `refresh` that succeeded the weak variables are
     /// those of this typing.
     fn found(&self) -> Analysis<'_>
         ensures found { finds self.now result }
-        ensures silent { AreTypable (items self.now) → are_warnings result.faults.now.list.items ≡ true }
         ensures refused { AreOfValues (items self.now) → ∥ AreRefused (items self.now) (map typer_fault_of result.faults.now.list.items) ∥₁ }
         ensures typed { AreOfValues (items self.now) → ∥ AreTyped (items self.now) result ∥₁ }
         ensures settled { is_settled self.now → AreOfValues (items self.now) → ∥ AreSettled (items self.now) result ∥₁ };

@@ -38,7 +38,7 @@ use Rattle.typing_rows.specs.Noted.{AreNoted}
 use Rattle.binding_rows.specs.ItemRows.{AreOwned, none_owned, leaves_none, leaves_types, leaves_one, ItemDone, ItemsDone, recorded_idle}
 use Rattle.typing_conditions.proofs.Stops.{get_cases, treated_silent}
 use Rattle.binding_rows.specs.Stopped.{StopsItems}
-use Rattle.binding_rows.proofs.ItemStops.{item_stop_first, item_stop_then, item_stop_between, item_stop_as, item_stop_cons}
+use Rattle.binding_rows.proofs.ItemStops.{item_stop_first, item_stop_then, item_stop_after, item_stop_between, item_stop_as, item_stop_cons}
 use Rattle.binding_rows.proofs.ItemsLeft.{left_earlier, left_first, left_second, stays_both, letters_both, left_both, decided_both, IsNext}
 pub use Rattle.binding_rows.proofs.ItemsLeft.{agrees_earlier, stays_between, append_assoc}
 use Rattle.binding_rows.specs.Outside.{Lasts, AgreesOutside, AreMet, InEachMet, Outside, Left, letters_left, EntersItems, ReadsItems, ContinuesItems, StaysOutside, OnlyBetween, ItemsCarried, SeesItems}
@@ -317,7 +317,7 @@ stops_trans {E} {E'} {asks} {rest} {further} {a} {b} {c} {G} {H} {K} after p nex
     } in
     elim (get_cases p.told q.told k r e) [
       | inl f ↦ item_stop_first rest q.left q.judged p (p.stays.sound sound) q.stays (first V x earlier k r f kind)
-      | inr (j, _, f) ↦ item_stop_then after q.left q.judged p next sound (second V (under (after x) x) here j r f kind)
+      | inr (j, later, f) ↦ item_stop_after p j later (item_stop_then after q.left q.judged p next sound (second V (under (after x) x) here j r f kind))
     ]
 
 -- What an item asks before the items inside it, and what these ask: it is carried, and where it is met, so is what the items inside ask.

@@ -14,10 +14,10 @@ use Rattle.type_nodes.specs.Readings.{Types, Fits}
 use Rattle.level_unify.proofs.Unified.{fits_loosely}
 use Rattle.typing_conditions.specs.Sights.{Sight, Key, Letters, Report, AreGiven}
 use Rattle.typing_conditions.specs.Hiding.{HasCopy, IsDone}
-use Rattle.typing_conditions.specs.Judging.{Judgement, judged_at, judgements, AreKept, AnySeen, Meets}
+use Rattle.typing_conditions.specs.Judging.{Judgement, judged_at, judgements, refused, AreKept, AnySeen, Meets}
 use Rattle.typing_conditions.specs.Carrying.{Asks, StopsAt, IsTreated}
 use Rattle.typing_conditions.proofs.Own.{own_of}
-use Rattle.typing_conditions.proofs.Judged.{hold_both, judged_both, kept_left, kept_right, given_right, given_both}
+use Rattle.typing_conditions.proofs.Judged.{hold_both, judged_both, refused_both, kept_left, kept_right, given_right, given_both}
 use Rattle.typing_conditions.proofs.Adequate.{never_short}
 use Rattle.typing_conditions.proofs.Hiding.{copy_itself, copy_of, copy_first, copy_second}
 use Rattle.typing_conditions.proofs.Stops.{get_first, get_second, get_cases, take_here, stops_first, stops_second, IsSecond, stops_cases, IsSilent}
@@ -52,8 +52,8 @@ left_copy_then : (ls ms : List Left) (G : Letters) {x : Key × ℕ} → HasCopy 
 left_copy_then ls ms G {x} h = copy_first (letters_left (ls ++ ms)) G (subst (λ xs. HasCopy xs x) (sym (letters_both ls ms)) (copy_second (letters_left ls) (letters_left ms) h))
 
 -- A stop of the first items is one with more items after them.
-pub item_stop_first : {E : Choice → Environment} {asks : Asks} {a b c : Sight} {G H K : Letters} (rest : Asks) (left : List Left) (judged : List Judgement) {r : Report} (p : ItemsCarried E asks a G b H) → IsSound b.nodes → StaysOutside b H c K → ItemStop E asks a G b p.left p.judged r →
-    ItemStop E (λ x. asks x ++ rest x) a G c (p.left ++ left) (p.judged ++ judged) r
+pub item_stop_first : {E : Choice → Environment} {asks : Asks} {a b c : Sight} {G H K : Letters} (rest : Asks) (left : List Left) (judged : List Judgement) {r : Report} {i : ℕ} (p : ItemsCarried E asks a G b H) → IsSound b.nodes → StaysOutside b H c K → ItemStop E asks a G b p.left p.judged i r →
+    ItemStop E (λ x. asks x ++ rest x) a G c (p.left ++ left) (p.judged ++ judged) i r
 item_stop_first {E} {asks} {a} {b} {c} {G} {H} {K} rest left judged {r} p sound stays s = record {
   state = s.state;
   begun = s.begun;
@@ -63,6 +63,7 @@ item_stop_first {E} {asks} {a} {b} {c} {G} {H} {K} rest left judged {r} p sound 
   site = s.site;
   before = s.before;
   judged_so = get_first p.judged judged s.before (judged_at s.site false false) s.judged_so;
+  counts = ap refused (take-append-le s.before p.judged judged (let lt = slice_get_within p.judged s.before (judged_at s.site false false) s.judged_so in omega arith)) ∙ s.counts;
   shows = s.shows;
   unbound = s.unbound;
   up_to = s.up_to;
@@ -111,8 +112,8 @@ item_stop_first {E} {asks} {a} {b} {c} {G} {H} {K} rest left judged {r} p sound 
     ]
 
 -- A stop of the next items is one after those before them.
-pub item_stop_then : {E E' : Choice → Environment} {asks rest further : Asks} {a b c : Sight} {G H : Letters} (after : Context → Environment) (left : List Left) (judged : List Judgement) {r : Report} (p : ItemsCarried E asks a G b H) → InEachMet E asks b H p.judged (IsNext E' rest further after) → IsSound a.nodes →
-    ItemStop E' further b H c left judged r → ItemStop E (λ x. asks x ++ rest x) a G c (p.left ++ left) (p.judged ++ judged) r
+pub item_stop_then : {E E' : Choice → Environment} {asks rest further : Asks} {a b c : Sight} {G H : Letters} (after : Context → Environment) (left : List Left) (judged : List Judgement) {r : Report} {i : ℕ} (p : ItemsCarried E asks a G b H) → InEachMet E asks b H p.judged (IsNext E' rest further after) → IsSound a.nodes →
+    ItemStop E' further b H c left judged i r → ItemStop E (λ x. asks x ++ rest x) a G c (p.left ++ left) (p.judged ++ judged) (refused p.judged + i) r
 item_stop_then {E} {E'} {asks} {rest} {further} {a} {b} {c} {G} {H} after left judged {r} p next sound s = record {
   state = s.state;
   begun = p.left ++ s.begun;
@@ -122,6 +123,7 @@ item_stop_then {E} {E'} {asks} {rest} {further} {a} {b} {c} {G} {H} after left j
   site = s.site;
   before = length p.judged + s.before;
   judged_so = get_second p.judged judged s.before ∙ s.judged_so;
+  counts = ap refused (take-append-add p.judged judged s.before) ∙ refused_both p.judged (take s.before judged) ∙ ap (λ m. refused p.judged + m) s.counts;
   shows = s.shows;
   unbound = s.unbound;
   up_to = record {
@@ -240,8 +242,13 @@ item_stop_then {E} {E'} {asks} {rest} {further} {a} {b} {c} {G} {H} after left j
         h : ItemStopped (further (into x)) s.before s.site r.at s.found s.wanted s.names V (into x)
         h = s.reads V (into x) (record { env = comes.env; reads = l.reads; agrees = l.agrees; left_too = left_second s.state.nodes p.left s.begun V x.chosen l.left_too; kept = kept_right x.kept p.judged judged l.kept }) known
 
+-- A report of the next items comes after those of the items before, which are as many as demands of them that aren't kept.
+pub item_stop_after : {E E' : Choice → Environment} {asks whole : Asks} {a b c : Sight} {G H : Letters} {left : List Left} {judged : List Judgement} {r : Report} {k : ℕ} (p : ItemsCarried E asks a G b H) (j : ℕ) → k ≡ length p.told + j →
+    ItemStop E' whole a G c left judged (refused p.judged + j) r → ItemStop E' whole a G c left judged k r
+item_stop_after {E' = E'} {whole = whole} {a = a} {c = c} {G = G} {left = left} {judged = judged} {r = r} p j e s = subst (λ n. ItemStop E' whole a G c left judged n r) (sym (e ∙ ap (λ n. n + j) p.counted)) s
+
 -- The next item may start where nothing else changed than between items.
-pub item_stop_between : {E : Choice → Environment} {asks : Asks} {a b c : Sight} {G : Letters} {left : List Left} {judged : List Judgement} {r : Report} → OnlyBetween a b → ItemStop E asks b G c left judged r → ItemStop E asks a G c left judged r
+pub item_stop_between : {E : Choice → Environment} {asks : Asks} {a b c : Sight} {G : Letters} {left : List Left} {judged : List Judgement} {r : Report} {i : ℕ} → OnlyBetween a b → ItemStop E asks b G c left judged i r → ItemStop E asks a G c left judged i r
 item_stop_between {E} {asks} {a} {b} {c} {G} {left} {judged} {r} only s = record {
   state = s.state;
   begun = s.begun;
@@ -251,6 +258,7 @@ item_stop_between {E} {asks} {a} {b} {c} {G} {left} {judged} {r} only s = record
   site = s.site;
   before = s.before;
   judged_so = s.judged_so;
+  counts = s.counts;
   shows = s.shows;
   unbound = s.unbound;
   up_to = record {
@@ -279,7 +287,7 @@ item_stop_between {E} {asks} {a} {b} {c} {G} {left} {judged} {r} only s = record
     start = stays_between only
 
 -- The conditions may be written in another way.
-pub item_stop_as : {E : Choice → Environment} {asks others : Asks} {a b : Sight} {G : Letters} {left : List Left} {judged : List Judgement} {r : Report} → ((x : Context) → asks x ≡ others x) → ItemStop E asks a G b left judged r → ItemStop E others a G b left judged r
+pub item_stop_as : {E : Choice → Environment} {asks others : Asks} {a b : Sight} {G : Letters} {left : List Left} {judged : List Judgement} {r : Report} {i : ℕ} → ((x : Context) → asks x ≡ others x) → ItemStop E asks a G b left judged i r → ItemStop E others a G b left judged i r
 item_stop_as {r = r} same s = record {
   state = s.state;
   begun = s.begun;
@@ -289,6 +297,7 @@ item_stop_as {r = r} same s = record {
   site = s.site;
   before = s.before;
   judged_so = s.judged_so;
+  counts = s.counts;
   shows = s.shows;
   unbound = s.unbound;
   up_to = s.up_to;
@@ -299,7 +308,7 @@ item_stop_as {r = r} same s = record {
 }
 
 -- A condition that is no demand, and holds where no unknown type stands in the types of nodes, may come before.
-pub item_stop_cons : {E : Choice → Environment} {asks : Asks} {a b : Sight} {G : Letters} {left : List Left} {judged : List Judgement} {r : Report} (one : Context → Condition) → IsSilent one → ItemStop E asks a G b left judged r → ItemStop E (λ c. one c ∷ asks c) a G b left judged r
+pub item_stop_cons : {E : Choice → Environment} {asks : Asks} {a b : Sight} {G : Letters} {left : List Left} {judged : List Judgement} {r : Report} {i : ℕ} (one : Context → Condition) → IsSilent one → ItemStop E asks a G b left judged i r → ItemStop E (λ c. one c ∷ asks c) a G b left judged i r
 item_stop_cons {E} {asks} {a} {b} {G} {left} {judged} {r} one is s = record {
   state = s.state;
   begun = s.begun;
@@ -309,6 +318,7 @@ item_stop_cons {E} {asks} {a} {b} {G} {left} {judged} {r} one is s = record {
   site = s.site;
   before = s.before;
   judged_so = s.judged_so;
+  counts = s.counts;
   shows = s.shows;
   unbound = s.unbound;
   up_to = s.up_to;

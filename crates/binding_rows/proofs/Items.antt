@@ -202,7 +202,7 @@ module _ {D : Declared} {n : ℕ} {ts : List Tok} {E : Choice → Environment} {
   item_owned m own = leaves_one own refl none_owned
 
   -- The letters at a stop inside the item, and the type variables that are written up to there.
-  abbrev begun_at : {r : Report} → Stop (group_frame l) (item_scope n ts E) asks y G (item_limited l) ((item_part l).hidden ++ item_letters l) (item_part l).judged r → Left
+  abbrev begun_at : {r : Report} {k : ℕ} → Stop (group_frame l) (item_scope n ts E) asks y G (item_limited l) ((item_part l).hidden ++ item_letters l) (item_part l).judged k r → Left
   begun_at t = record { letters = t.letters; owner = n; names = variables_written ts; written = t.state.written; fixed = [] }
 
   -- where nothing is written yet
@@ -213,7 +213,7 @@ module _ {D : Declared} {n : ℕ} {ts : List Tok} {E : Choice → Environment} {
   reached_start = reached_inward (goes_in l) l.only l.raised
 
   -- what is there at a stop is there after the item
-  lasts_after : {r : Report} (t : Stop (group_frame l) (item_scope n ts E) asks y G (item_limited l) ((item_part l).hidden ++ item_letters l) (item_part l).judged r) → LastsOutside t.state (letters_left (begun_at t ∷ [])) (sight d) (letters_left (item_left ∷ []) ++ G)
+  lasts_after : {r : Report} {k : ℕ} (t : Stop (group_frame l) (item_scope n ts E) asks y G (item_limited l) ((item_part l).hidden ++ item_letters l) (item_part l).judged k r) → LastsOutside t.state (letters_left (begun_at t ∷ [])) (sight d) (letters_left (item_left ∷ []) ++ G)
   lasts_after t = record {
     longer = let q = same_length in let m = t.lasts.longer in omega arith;
     loose = λ V h. t.lasts.loose V (loose_before_close l V h);
@@ -232,7 +232,7 @@ module _ {D : Declared} {n : ℕ} {ts : List Tok} {E : Choice → Environment} {
       on z (inr h) = inr (copy_of h (more h.place h.entry h.at))
 
   -- A stop inside the item is one of it.
-  item_stop : {r : Report} → Stop (group_frame l) (item_scope n ts E) asks y G (item_limited l) ((item_part l).hidden ++ item_letters l) (item_part l).judged r → ItemStop E (λ c. asks (inside_item n ts c)) (sight x) G (sight d) (item_left ∷ []) (item_part l).judged r
+  item_stop : {r : Report} {k : ℕ} → Stop (group_frame l) (item_scope n ts E) asks y G (item_limited l) ((item_part l).hidden ++ item_letters l) (item_part l).judged k r → ItemStop E (λ c. asks (inside_item n ts c)) (sight x) G (sight d) (item_left ∷ []) (item_part l).judged k r
   item_stop {r} t = record {
     state = t.state;
     begun = begun_at t ∷ [];
@@ -242,6 +242,7 @@ module _ {D : Declared} {n : ℕ} {ts : List Tok} {E : Choice → Environment} {
     site = t.site;
     before = t.before;
     judged_so = t.judged_so;
+    counts = t.counts;
     shows = t.shows;
     unbound = t.unbound;
     up_to = record {

@@ -15,7 +15,7 @@ use Rattle.env_table.specs.declared.faults.FaultKind.TheVariants as fault
 use Rattle.typing_conditions.specs.Sights.{Sight, Key, Report, Letters, AreGiven, SameAt}
 use Rattle.typing_conditions.specs.Seeing.{StandsFor}
 use Rattle.typing_conditions.specs.Hiding.{IsDone}
-use Rattle.typing_conditions.specs.Judging.{Judgement, judged_at, AreKept}
+use Rattle.typing_conditions.specs.Judging.{Judgement, judged_at, refused, AreKept}
 use Rattle.typing_conditions.specs.Carrying.{Asks, AreHidden, StopsAt, IsTreated, without_values, ShowsBoth}
 use Rattle.binding_rows.specs.Outside.{AgreesOutside, AreInside, Left, letters_left, AreDecided, EntersItems, ReadsItems}
 
@@ -64,8 +64,8 @@ pub record ItemStopped (cs : List Condition) (n : ℕ) (s : Site) (at : Place) (
 
 -- A demand that two types are one was reported, and its message shows the types as they were then: `state` is the one before it, in an item, and `begun` what was left up to there, by the items before and by this one.
 -- No bound variable stands in the two nodes. `enters`: types that enter the state before the items, and meet the conditions before the demand, go on to it, and the demand is that theirs are one. `reads`: each reading of it, in a context in whose types of nodes no unknown type stands, meets the
--- conditions before the demand, which is that the types of the two nodes are one. The demand is the one of the place `before` among those that are judged.
-pub record ItemStop (E : Choice → Environment) (asks : Asks) (a : Sight) (G : Letters) (b : Sight) (left : List Left) (judged : List Judgement) (r : Report) : Type 0 where
+-- conditions before the demand, which is that the types of the two nodes are one. The demand is the one of the place `before` among those that are judged, and `earlier` of those before it aren't kept.
+pub record ItemStop (E : Choice → Environment) (asks : Asks) (a : Sight) (G : Letters) (b : Sight) (left : List Left) (judged : List Judgement) (earlier : ℕ) (r : Report) : Type 0 where
   pub state : Sight
   pub begun : List Left
   pub found : NodeRef
@@ -74,6 +74,7 @@ pub record ItemStop (E : Choice → Environment) (asks : Asks) (a : Sight) (G : 
   pub site : Site
   pub before : ℕ
   pub judged_so : slice_get judged before ≡ Some (judged_at site false false)
+  pub counts : refused (take before judged) ≡ earlier
   pub shows : ShowsBoth state.nodes names found wanted r.message
   pub unbound : HaveNoBound state.nodes found.0 wanted.0
   pub up_to : UpToItem a G state (letters_left begun)
@@ -82,9 +83,9 @@ pub record ItemStop (E : Choice → Environment) (asks : Asks) (a : Sight) (G : 
   pub enters : (V : Types) (c : Context) → EntersItems E a G V c → AreKept c.kept judged → (k : ℕ) (s : Site) (at : Place) (d : Demand) → StopsAt c.kept (asks c) before k s at d → GoesToItem a state begun found wanted d V c.chosen
   pub reads : (V : Types) (c : Context) → ReadsItems E state [] begun judged V c → ((n : ℕ) → IsKnown (c.chosen.type_at n)) → ItemStopped (asks c) before site r.at found wanted names V c
 
--- each report that two types differ has such a stop
+-- each report that two types differ has such a stop, at a demand before which as many aren't kept as reports come before it
 abbrev pub AreItemStops : (E : Choice → Environment) → Asks → Sight → Letters → Sight → List Left → List Judgement → List Report → Type 0
-AreItemStops E asks a G b left judged told = (k : ℕ) (r : Report) → slice_get told k ≡ Some r → r.kind ≡ fault.Equal → ItemStop E asks a G b left judged r
+AreItemStops E asks a G b left judged told = (k : ℕ) (r : Report) → slice_get told k ≡ Some r → r.kind ≡ fault.Equal → ItemStop E asks a G b left judged k r
 
 -- the same where there is a reading of the state after items
 abbrev pub StopsItems : (E : Choice → Environment) → Asks → Sight → Letters → Sight → Letters → List Left → List Judgement → List Report → Type 0

@@ -8,4 +8,5 @@ pub mod Expressions
 pub mod Rows
 pub mod Agreed
 pub mod Texts
+pub mod Left
 pub mod Bare

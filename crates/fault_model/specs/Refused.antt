@@ -1,5 +1,6 @@
 -- The demands of a text that aren't kept: where each stands, which kind of fault it is, and what is reported of it.
-use Rattle.std.specs.Prelude.{◌≡◌, ℕ, ◌<◌, ◌^◌, Bool, true, false, List, [], ◌∷◌, All, Option, Some, None, if◌then◌else◌}
+use Rattle.std.specs.Prelude.{◌≡◌, ℕ, ◌<◌, ◌^◌, Bool, true, false, List, [], ◌∷◌, All, map, Option, Some, None, if◌then◌else◌}
+use Rattle.std.specs.List.{AllZip}
 use Rattle.token_model.specs.Kinds.{Tok}
 use Rattle.token_model.specs.Tokens.{Lex}
 use Rattle.tree_model.specs.Trees.{Place, Tree, size_of}
@@ -38,7 +39,7 @@ kind_asked (agrees c n s t) = kind_of_complaint c
 kind_asked (matches A t) = fault.matching
 kind_asked (closes env s) = fault.closing
 
--- the message of a demand where it isn't kept; those that name types and signatures stay open
+-- the message of a demand where it isn't kept, but for those that name types and signatures
 abbrev pub says_asked : Demand → Option (List ℕ)
 says_asked (equal t u) = None
 says_asked (test c b) = Some (complaint_text c)
@@ -46,7 +47,7 @@ says_asked (agrees c n s t) = Some (complaint_text c)
 says_asked (matches A t) = None
 says_asked (closes env s) = None
 
--- where a fault stands, of which kind it is, and its message, where that is fixed
+-- where a fault stands, of which kind it is, and its message, but for those that name types and signatures
 pub record Refused : Type 0 where
   pub at : Place
   pub kind : TyperKind
@@ -66,23 +67,37 @@ refused_of kept (known t ∷ cs) = refused_of kept cs
 refused_of kept (demand s at d ∷ cs) = if kept s then refused_of kept cs else refused_as at d ∷ refused_of kept cs
 refused_of kept (treated n env ∷ cs) = refused_of kept cs
 
+-- their sites
+abbrev pub sites_refused : (Site → Bool) → List Condition → List Site
+sites_refused kept [] = []
+sites_refused kept (same t u ∷ cs) = sites_refused kept cs
+sites_refused kept (instance s t ∷ cs) = sites_refused kept cs
+sites_refused kept (made n t ∷ cs) = sites_refused kept cs
+sites_refused kept (known t ∷ cs) = sites_refused kept cs
+sites_refused kept (demand s at d ∷ cs) = if kept s then sites_refused kept cs else s ∷ sites_refused kept cs
+sites_refused kept (treated n env ∷ cs) = sites_refused kept cs
+
 -- whether a kind is that of a warning
 abbrev pub is_warning : TyperKind → Bool
 is_warning fault.missed = true
 is_warning fault.unused = true
 is_warning _ = false
 
--- a message of a fault of a kind; those of the kinds that name types and signatures stay open
+-- a message of a fault of a kind, but for the kinds whose messages name types and signatures
 abbrev pub says_by : TyperKind → List ℕ → Option (List ℕ)
 says_by fault.equal message = None
 says_by fault.matching message = None
 says_by fault.closing message = None
 says_by _ message = Some message
 
--- the places, kinds and messages of what is told, but for the warnings among it
-abbrev pub standing : List TyperFault → List Refused
+-- a fault that is reported, without a message that names types or signatures
+abbrev pub reported_as : TyperFault → Refused
+reported_as f = record { at = f.span; kind = f.kind; says = says_by f.kind f.message }
+
+-- what is reported, but for the warnings among it
+abbrev pub standing : List TyperFault → List TyperFault
 standing [] = []
-standing (f ∷ fs) = if is_warning f.kind then standing fs else record { at = f.span; kind = f.kind; says = says_by f.kind f.message } ∷ standing fs
+standing (f ∷ fs) = if is_warning f.kind then standing fs else f ∷ standing fs
 
 -- items of a text that are `let`, `;;` and exceptions that have a name and take no argument, each of fewer than 2^32 nodes
 pub record AreOfValues (items : List Tree) : Type 0 where
@@ -98,14 +113,12 @@ pub record IsOfValues (text : List ℕ) : Type 0 where
   pub lexed : Lex text tokens
   pub items : AreOfValues (program_items tokens)
 
--- a message at a place is that of a demand there that two types are one, which isn't kept
-pub record IsTold (env : Environment) (items : List Tree) (kept : Site → Bool) (at : Place) (message : List ℕ) : Type 0 where
-  pub site : Site
-  pub refused : kept site ≡ false
-  pub says : IsMessageAt env items kept site at message
+-- a fault that two types differ is at the place of the demand of a site, with its message
+abbrev pub IsTold : Environment → List Tree → (Site → Bool) → Site → TyperFault → Type 0
+IsTold env items kept s f = f.kind ≡ fault.equal → IsMessageAt env items kept s f.span f.message
 
--- What of the faults of items is fixed by a principal typing with the kept demands: but for warnings the place and the kind of each, and the message of those on names, in the order of the demands;
--- and the message of each that two types differ.
+-- What of the faults of items is fixed by a principal typing with the kept demands: but for warnings there is one for each demand that isn't kept, in order, at its place, of its kind and with its message, where that is about names;
+-- and each that two types differ has the message of its own demand.
 pub record AreRefused (items : List Tree) (faults : List TyperFault) : Type 0 where
   pub env : Environment
   pub first : IsFirst env
@@ -114,5 +127,5 @@ pub record AreRefused (items : List Tree) (faults : List TyperFault) : Type 0 wh
   pub choice : Choice
   pub principal : IsPrincipal env items kept choice.type_at
   pub holds : AllHold kept (conditions_of env items kept choice)
-  pub are : standing faults ≡ refused_of kept (conditions_of env items kept choice)
-  pub told : All (λ f. f.kind ≡ fault.equal → IsTold env items kept f.span f.message) faults
+  pub are : map reported_as (standing faults) ≡ refused_of kept (conditions_of env items kept choice)
+  pub told : AllZip (IsTold env items kept) (sites_refused kept (conditions_of env items kept choice)) (standing faults)

@@ -8,7 +8,7 @@
 //! are defined. `FirstTypes` has the types of the first environment, of which `ValueTypes` says that the types of a text's nodes are made.
 #![tactic(auto)]
 
-ghost use Rattle.std.specs.Prelude.{◌≡◌, ℕ, Bool, true, List, codes, map, reverse, Some, slice_get};
+ghost use Rattle.std.specs.Prelude.{◌≡◌, ℕ, Bool, true, List, codes, length, map, reverse, Some, slice_get};
 ghost use Rattle.token_model.specs.Kinds.{Tok};
 ghost use Rattle.token_model.specs.Tokens.{Lex};
 ghost use Rattle.tree_model.specs.Trees.{Tree};
@@ -27,8 +27,9 @@ ghost use Rattle.typing_model.specs.Meanings.{items_of};
 ghost use Rattle.typing_model.specs.Typings.{conditions_of, outermost, IsMostGeneralChoice};
 ghost use Rattle.typing_model.specs.First.{IsFirst, IsSetting, IsFound, program_items};
 ghost use Rattle.typing_model.specs.Demands.{Site};
+ghost use Rattle.typing_model.specs.Typable.{IsTypable};
 ghost use Rattle.typing_model.specs.Plain.{has_no_modules, has_lets_alone, has_values_alone};
-ghost use Rattle.fault_model.specs.Refused.{standing, AreRefused};
+ghost use Rattle.fault_model.specs.Refused.{standing, IsOfValues, AreRefused};
 ghost use Rattle.fault_model.specs.Values.{are_bare};
 ghost use Rattle.typing_model.specs.PreludeText.{prelude_text};
 ghost use Rattle.typed_model.specs.Shown.{IsToldTyped, IsTypingOf, AreShown, asked};
@@ -71,9 +72,14 @@ pub fn kept_demands_that_are_found_are_one()
     ensures { (text : List ℕ) (kept others : Site → Bool) (types shown : ℕ → Typ) (f : IsFound text kept types) → has_no_modules f.items ≡ true → IsFound text others shown → (s : Site) → kept s ≡ others s }
 {}
 
-/// The places and kinds of the faults of items that are `let`, exceptions and `;;` alone are one, but for warnings, and so are the messages of those on names.
+/// The faults of items that are `let`, exceptions and `;;` alone are one list but for warnings, each with its place, its kind and its message.
 pub fn faults_of_values_are_one()
     ensures { (items : List Tree) (faults others : List TyperFault) → has_values_alone items ≡ true → AreRefused items faults → AreRefused items others → standing faults ≡ standing others }
+{}
+
+/// Of a text that can be typed no fault but warnings is reported: this follows from which faults are reported of the items of such a text.
+pub fn texts_that_can_be_typed_have_no_faults()
+    ensures { (text : List ℕ) (faults : List TyperFault) → IsTypable text → ((t : IsOfValues text) → ∥ AreRefused (program_items t.tokens) faults ∥₁) → length (standing faults) ≡ 0 }
 {}
 
 /// Each constructor in the type of a node of such items that is told with it is one of the types of the first environment, and a path

@@ -1,5 +1,5 @@
 -- What is said of a text's structure: its outline, and its faults.
-use Rattle.std.specs.Prelude.{◌≡◌, ℕ, List, [], ◌∷◌, ◌++◌, codes, map, Bool, true, false}
+use Rattle.std.specs.Prelude.{◌≡◌, ℕ, List, ◌++◌, codes, map, Bool, true, false}
 use Rattle.text_model.specs.Positions.{position_of}
 use Rattle.token_model.specs.Kinds.{Tok}
 use Rattle.token_model.specs.Tokens.{Lex}
@@ -8,8 +8,7 @@ use Rattle.grammar_model.specs.Named.{named, items_of}
 use Rattle.recovery_model.specs.Recovery.{recover}
 use Rattle.grammar_model.specs.Ocaml.{grammar, program_text, row_name}
 use Rattle.query_model.specs.Outlines.{Kind, value, type_name, exception_name, module_name, module_type, Member, Members, member, no_members, also, members_of, outline}
-use Rattle.query_model.specs.Faults.{Fault, Listed, TyperFault, warning, source_of, by_typer, told, page, has_more}
-use Rattle.typing_model.specs.Typable.{IsTypable}
+use Rattle.query_model.specs.Faults.{Fault, Listed, TyperFault, by_typer, told, page, has_more}
 use Rattle.fault_model.specs.Refused.{IsOfValues, AreRefused}
 use Rattle.service_model.specs.Replies as said
 use Rattle.service_model.specs.WellTyped.{is_well_typed}
@@ -56,18 +55,13 @@ OutlineIs text s = (tokens : List Tok) × Lex text tokens × (s ≡ outline_said
 abbrev pub shown_fault : List ℕ → Listed → said.Fault
 shown_fault text f = record { start = position_of text f.span.start; end = position_of text f.span.end; kind = f.kind; message = f.message; source = f.source }
 
--- each of these is a warning, and none a fault
-abbrev pub AreWarnings : List TyperFault → Type 0
-AreWarnings [] = Unit {0}
-AreWarnings (f ∷ fs) = (source_of f.kind ≡ warning) × AreWarnings fs
-
 -- the page of these faults of a text
 abbrev pub faults_said : List ℕ → List Fault → said.Said
 faults_said text fs = said.faults (map (shown_fault text) (page fs)) (has_more fs)
 
--- What is known of the typer's faults of a text: a text that can be typed has none but warnings, and those of a text of `let` and `;;` are the demands that aren't kept, in order, each at its place, of its kind and with its message.
+-- What is known of the typer's faults of a text: those of a text of `let`, `;;` and exceptions without an argument, but for warnings, are those of the demands that aren't kept, in order, each at its place, of its kind and with its message. So such a text that can be typed has none.
 abbrev pub TyperFaults : List ℕ → List TyperFault → Type 0
-TyperFaults text typed = (IsTypable text → AreWarnings typed) × ((t : IsOfValues text) → ∥ AreRefused (items_in t.tokens) typed ∥₁)
+TyperFaults text typed = (t : IsOfValues text) → ∥ AreRefused (items_in t.tokens) typed ∥₁
 
 -- the page of the parser's faults together with those of the typer, in the order of their demands; which these are stays open, but for what `TyperFaults` says
 abbrev pub FaultsAre : List ℕ → List Fault → said.Said → Type 0

@@ -11,7 +11,6 @@ use Rattle.plain_model.specs.Plain.{AllSeenWithin}
 use Rattle.plain_model.proofs.Within.{seen_within}
 use Rattle.query_model.specs.Faults.{TyperFault, by_typer}
 use Rattle.query_model.specs.TypedNodes.{Typed, typed_at}
-use Rattle.typing_model.specs.Typable.{AreTypable}
 use Rattle.fault_model.specs.Refused.{AreOfValues, AreRefused}
 use Rattle.service_model.specs.Replies as said
 use Rattle.service_model.specs.Structure.{faults_in, faults_said, items_in, ErrorsAre, ErrorsBy, FaultsAre, TyperFaults}
@@ -22,7 +21,6 @@ use Rattle.frame_parser.specs.declared.whole.Parsed.{Parsed}
 use Rattle.plain_typing.specs.View.{seen_of}
 use Rattle.text_queries.specs.Faults.{fault_of, typer_fault_of}
 use Rattle.env_table.specs.declared.faults.Fault as typer
-use Rattle.analysis_api.specs.Warnings as api
 use Rattle.analysis_api.specs.declared.Analysis.{Analysis}
 use Rattle.analysis_api.specs.Types.{AreSettled}
 use Rattle.typed_model.specs.Shown.{AreShown}
@@ -97,9 +95,9 @@ faults_parsed : (text : List ℕ) (p : Parsed) (typed : List TyperFault) (s : sa
 faults_parsed text p typed s h known page = (h.tokens, h.lexed, (typed, known, page ∙ ap (λ fs. faults_said text (fs ++ map by_typer typed)) h.faults))
 
 -- and what is said of them
-pub faults_found : (text : List ℕ) (p : Parsed) (items : List Tree) (found : List typer.Fault) (s : said.Said) → IsParsedAs text p → items ≡ trees_of p.tree → (AreTypable items → api.are_warnings found ≡ true) → (AreOfValues items → ∥ AreRefused items (map typer_fault_of found) ∥₁) →
+pub faults_found : (text : List ℕ) (p : Parsed) (items : List Tree) (found : List typer.Fault) (s : said.Said) → IsParsedAs text p → items ≡ trees_of p.tree → (AreOfValues items → ∥ AreRefused items (map typer_fault_of found) ∥₁) →
     s ≡ faults_said text (map fault_of p.faults.items ++ map by_typer (map typer_fault_of found)) → AreFaultsOf text s
-faults_found text p items found s h are silent refused page = faults_parsed text p (map typer_fault_of found) s h (typer_found text p items found h are silent refused) page
+faults_found text p items found s h are refused page = faults_parsed text p (map typer_fault_of found) s h (typer_found text p items found h are refused) page
 
 -- the texts of types that are shown for typed nodes
 shown_texts : (a : Asked) (nodes : List Typed) (types : List engine.Typed) → AllZip (IsShown a) nodes types → AllZip (λ n t. IsTypeText a n.id t) nodes (map type_text_of types)

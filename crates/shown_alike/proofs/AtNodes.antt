@@ -1,10 +1,10 @@
 -- The names that patterns bind have types of nodes: no type that a row leaves open is one of theirs.
-use Rattle.std.proofs.Common.{◌≡◌, ℕ, ◌+◌, ◌==◌, Bool, true, false, ◌&&◌, ◌||◌, List, [], ◌∷◌, ◌++◌, map, filter_map, Option, Some, None, refl, sym, ap, subst, if◌then◌else◌}
+use Rattle.std.proofs.Common.{◌≡◌, ℕ, ◌+◌, ◌==◌, Bool, true, false, List, [], ◌∷◌, ◌++◌, filter_map, Option, Some, None, refl, ap, if◌then◌else◌}
 use Rattle.token_model.specs.Kinds.{Tok}
 use Rattle.tree_model.specs.Rows.{Row, binding_row, qfield_row, pname_row, pany_row, pconst_row, pneg_row, pcon_row, pparen_row, plist_row, precord_row, papp_row, pcons_row, ptuple_row, por_row, pas_row}
 use Rattle.tree_model.specs.Trees.{Place, place, Tree, Forest, Part, node, no_parts, part, taken, inner, missing, part_size}
 use Rattle.typing_model.specs.Contexts.{Context, Bound}
-use Rattle.typing_model.specs.Meanings.{binding_of, field_pattern_of, node_child, leaf_child, children_of, child_of, tree_child}
+use Rattle.typing_model.specs.Meanings.{binding_of, field_pattern_of, leaf_child, children_of, child_of, tree_child}
 use Rattle.typing_model.specs.Parts.{Written, Pattern, TypeExpression, Binding, FieldPattern, Child, in_slot, path_in, token_in, patterns_in, pattern_in, types_in, first_of, no_pattern_at, place_of}
 use Rattle.typing_model.specs.Patterns.{bound_at, all_names, pname, papp, pparen, pas, punned, names_in_field, precord, pattern_row}
 use Rattle.typing_laws.proofs.Steady.{Each, no_one, one_and, each_append, IfThere, absent, there}

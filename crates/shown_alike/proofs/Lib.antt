@@ -5,3 +5,4 @@ pub mod Behind
 pub mod Weak
 pub mod Programs
 pub mod Messages
+pub mod Faults

@@ -1,5 +1,5 @@
 -- In a text of `let` and `;;` the weak variables of two typings are renamed ones of each other, so one text is shown of each node.
-use Rattle.std.proofs.Common.{◌≡◌, ◌∙◌, ℕ, Bool, true, false, List, Some, sym, ap, subst}
+use Rattle.std.proofs.Common.{◌≡◌, ◌∙◌, ℕ, Bool, true, false, List, Some, sym, ap}
 use Rattle.std.specs.Prelude.{slice_get}
 use Rattle.tree_model.specs.Trees.{Tree}
 use Rattle.query_model.specs.TypedNodes.{Typed}

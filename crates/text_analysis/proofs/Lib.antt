@@ -24,11 +24,11 @@ mod Reading
 mod Shifting
 -- Faults of items that are `let` and `;;` alone.
 mod Refused
--- Items that can be typed.
-mod Silent
 -- Parts of different sorts.
 mod Sorts
 -- Calls that type items.
 mod TypedLaws
 -- What is recorded for expressions and patterns.
 mod TypedNodes
+-- Items that are `let`, `;;` and exceptions without an argument.
+mod Values

@@ -65,7 +65,7 @@ use Rattle.weak_variables.proofs.Behind.{lets_behind_over}
 use Rattle.weak_variables.proofs.Weak.{are_weak}
 use Rattle.text_analysis.specs.Weak.{HasFree}
 use Rattle.text_analysis.specs.Given.{Given, Opens}
-use Rattle.text_analysis.proofs.Silent.{values_are_carried}
+use Rattle.text_analysis.proofs.Values.{values_are_carried}
 use Rattle.text_analysis.proofs.Refused.{are_small, all_keep, all_add, all_placed}
 
 -- what is seen of a node is one record of the index: its names in scope, and its type

@@ -10,4 +10,5 @@ pub mod Principal
 pub mod Stopped
 pub mod Messages
 pub mod Silent
+pub mod Typable
 pub mod Typed

@@ -1,4 +1,4 @@
--- The message of a report that two types differ is that of a demand of the text, by the definitions.
+-- The message of a report that two types differ is that of its demand, by the definitions.
 use Rattle.std.proofs.Common.{◌≡◌, Bool, true, List, sym, subst}
 use Rattle.tree_model.specs.Trees.{Tree}
 use Rattle.type_model.specs.Types.{Path, Typ}
@@ -24,9 +24,9 @@ use Rattle.print_laws.proofs.Messages.{message_prints}
 use Rattle.text_laws.specs.Stopped.{IsStopped}
 
 -- In a text of `let`, `;;` and exceptions without an argument, from names in scope that are made of some constructors, each of which a path of them reaches, with names of one byte a character, and in no type made of which a rigid variable stands: the message of each such report prints the two types of its demand.
-pub values_message : {env : Environment} {text : List Tree} {kept : Site → Bool} {r : Report} (w : Constructors) → has_values_alone text ≡ true → are_bare text ≡ true → names_made_of w.all env ≡ true → names_ascii env ≡ true → ((o : Path) → among o w.all ≡ true → (p : NamePath) × Reaches naming env o p) →
-    ((t : Typ) → is_made_of w.all t ≡ true → HasNoRigid t) → (x : IsStopped env text kept r) → IsMessageAt env text kept x.site r.at r.message
-values_message {env} {text} {kept} {r} w values bare names ascii reached clean x = record {
+pub values_message : {env : Environment} {text : List Tree} {kept : Site → Bool} {s : Site} {r : Report} (w : Constructors) → has_values_alone text ≡ true → are_bare text ≡ true → names_made_of w.all env ≡ true → names_ascii env ≡ true → ((o : Path) → among o w.all ≡ true → (p : NamePath) × Reaches naming env o p) →
+    ((t : Typ) → is_made_of w.all t ≡ true → HasNoRigid t) → (x : IsStopped env text kept s r) → IsMessageAt env text kept s r.at r.message
+values_message {env} {text} {kept} {s} {r} w values bare names ascii reached clean x = record {
   found = x.types x.found.0;
   wanted = x.types x.wanted.0;
   pair = x.pair;
@@ -36,10 +36,10 @@ values_message {env} {text} {kept} {r} w values bare names ascii reached clean x
 }
   where
     made : (is_made_of w.all (x.types x.found.0) ≡ true) × (is_made_of w.all (x.types x.wanted.0) ≡ true)
-    made = pair_types_are_made w env text kept x.site r.at (x.types x.found.0) (x.types x.wanted.0) values bare names x.pair (x.known x.found.0) (x.known x.wanted.0)
+    made = pair_types_are_made w env text kept s r.at (x.types x.found.0) (x.types x.wanted.0) values bare names x.pair (x.known x.found.0) (x.known x.wanted.0)
 
     over : IsOver env x.treated_in
-    over = values_before_over env text (kept_before env text kept x.site) x.pair.choice values x.site x.site.node x.treated_in x.in_scope.0 x.in_scope.1
+    over = values_before_over env text (kept_before env text kept s) x.pair.choice values s s.node x.treated_in x.in_scope.0 x.in_scope.1
 
     there : (t : Typ) → is_made_of w.all t ≡ true → HasPaths x.treated_in t
     there t is o m = let (p, r) = reached o (mentioned_made w.all o t is m) in (p, subst (λ z. Reaches naming z o p) (sym over.is) (reaches_under over.front env over.are_no_types o p r))

@@ -1,5 +1,5 @@
 -- Texts of `let`, exceptions and `;;` are orderly, and in texts without modules no demand is that a body closes.
-use Rattle.std.proofs.Common.{◌≡◌, ◌∙◌, Bool, true, List, refl, sym, ap}
+use Rattle.std.proofs.Common.{◌≡◌, ◌∙◌, Bool, true, false, List, refl, sym, ap}
 use Rattle.type_model.proofs.Applying.{or_right}
 use Rattle.tree_model.specs.Trees.{Tree}
 use Rattle.signature_model.specs.Entries.{Environment}
@@ -7,7 +7,7 @@ use Rattle.typing_model.specs.Demands.{Site, same_site, Demand, equal, test, agr
 use Rattle.typing_model.specs.Contexts.{Choice}
 use Rattle.typing_model.specs.Typings.{conditions_of, no_choice, demands_of, is_site_among, sites_before}
 use Rattle.typing_model.specs.Plain.{has_no_modules, has_values_alone}
-use Rattle.typing_laws.proofs.Together.{is_end}
+use Rattle.typing_laws.proofs.Together.{is_end, on_signatures}
 use Rattle.typing_laws.proofs.Settled.{values_settled}
 use Rattle.typing_laws.proofs.Quiet.{Quiet, silence, q_demand, q_same, q_instance, q_made, q_known, q_treated}
 use Rattle.typing_laws.proofs.QuietTexts.{text_quiet}
@@ -38,9 +38,16 @@ ends_close (agrees c n s t) = refl
 ends_close (matches a t) = refl
 ends_close (closes e s) = refl
 
+ends_are_on_signatures : (d : Demand) → on_signatures d ≡ false → is_end d ≡ false
+ends_are_on_signatures (equal t u) e = refl
+ends_are_on_signatures (test c b) e = refl
+ends_are_on_signatures (agrees c n s t) e = refl
+ends_are_on_signatures (matches a t) e = refl
+ends_are_on_signatures (closes x s) e = e
+
 none_of_quiet : (kept : Site → Bool) {cs : List Condition} → Quiet cs → NoneCloses (judgements kept cs)
 none_of_quiet kept silence = tt
-none_of_quiet kept (q_demand {d = d} e h) = (ends_close d ∙ e, none_of_quiet kept h)
+none_of_quiet kept (q_demand {d = d} e h) = (ends_close d ∙ ends_are_on_signatures d e, none_of_quiet kept h)
 none_of_quiet kept (q_same h) = none_of_quiet kept h
 none_of_quiet kept (q_instance h) = none_of_quiet kept h
 none_of_quiet kept (q_made h) = none_of_quiet kept h

@@ -2,6 +2,7 @@
 use Rattle.std.proofs.Common.{◌≡◌, ◌+◌, ◌∙◌, inl, inr, ℕ, zero, suc, ◌^◌, ◌==◌, Bool, true, false, ◌&&◌, Option, Some, None, List, [], ◌∷◌, take, length, refl, sym, ap, subst, append-nil}
 use Rattle.std.specs.Prelude.{slice_get}
 use Rattle.std.proofs.lemmas.Nat.{div-mul-add, mod-mul-add}
+use Rattle.std.proofs.lemmas.Option.{same_Some}
 use Rattle.type_model.proofs.Applying.{or_cases}
 use Rattle.tree_model.specs.Trees.{Tree, Place}
 use Rattle.signature_model.specs.Entries.{Environment}
@@ -12,6 +13,7 @@ use Rattle.typing_model.specs.Meanings.{items_of}
 use Rattle.typing_model.specs.Typings.{outermost, conditions_of, no_choice, demands_of, is_site_among, sites_before, kept_before, conditions_before}
 use Rattle.typing_model.specs.Plain.{has_values_alone}
 use Rattle.fault_model.specs.Values.{are_bare}
+use Rattle.fault_model.specs.Refused.{sites_refused}
 use Rattle.type_model.specs.Types.{Var}
 use Rattle.fault_model.specs.Messages.{asked_before, IsPairAt, IsTreatedIn}
 use Rattle.type_nodes.specs.Nodes.{Node, Con, IsSound}
@@ -29,6 +31,7 @@ use Rattle.typing_conditions.proofs.Adequate.{kept_of}
 use Rattle.typing_conditions.proofs.Own.{own_of}
 use Rattle.typing_conditions.proofs.Roots.{own_reads}
 use Rattle.site_laws.proofs.Texts.{AreSmall}
+use Rattle.demand_laws.proofs.Left.{sites_left, sites_refused_left, left_there}
 use Rattle.binding_rows.specs.ItemRows.{AreOwned}
 use Rattle.binding_rows.specs.Outside.{Left, letters_left, ItemsCarried}
 use Rattle.binding_rows.specs.Stopped.{AreBegun, GoesToItem, ItemStopped, ItemStop, StopsItems}
@@ -94,7 +97,7 @@ module _ {b : Sight} {left : Letters} (placed : ArePlaced b) (sure : NoneDoubtfu
 
 -- A stop of a text whose demands are made once and in order, after which none of the letters that items left is doubtful.
 module _ {env : Environment} {text : List Tree} {kept : Site → Bool} {a b : Sight} {G : Letters} (orderly : IsOrderly env text) (once : AsksOnce env text) (h : IsTyped env text kept a b G) (placed : ArePlaced b) (plain : IsPlain b.nodes) (sure : NoneDoubtful (letters_left h.carried.left))
-    (owners : OwnersApart h.carried.left) (none : NoneDecided h.carried.left) {r : Report} (s : ItemStop (λ ch. env) (text_asks text) a [] b h.carried.left h.carried.judged r) where
+    (owners : OwnersApart h.carried.left) (none : NoneDecided h.carried.left) {k : ℕ} {r : Report} (s : ItemStop (λ ch. env) (text_asks text) a [] b h.carried.left h.carried.judged k r) where
   -- the types that the nodes had then by themselves
   own_then : (J : Types) × IsOwn s.state.nodes J
   own_then = own_of s.state.nodes s.up_to.sound
@@ -207,10 +210,9 @@ module _ {env : Environment} {text : List Tree} {kept : Site → Bool} {a b : Si
   }
 
   -- So the report is that of a demand of the text that isn't kept, and shows its two types.
-  pub is_stopped : IsStopped env text kept r
+  is_stopped : IsStopped env text kept s.site r
   unfolding pair_then
   is_stopped = record {
-    site = s.site;
     refused = stopped.stops.refused;
     nodes = s.state.nodes;
     sound = s.up_to.sound;
@@ -230,13 +232,22 @@ module _ {env : Environment} {text : List Tree} {kept : Site → Bool} {a b : Si
     unbound = s.unbound;
   }
 
--- So of each report of a text of `let`, `;;` and exceptions without an argument that two types differ it is known which demand's it is, and that it shows the demand's two types, where none of the letters that are left is doubtful.
+  -- Its site is the one after as many that aren't kept as reports come before it.
+  pub stopped_at : (ch : Choice) (x : Site) → slice_get (sites_refused kept (conditions_of env text kept ch)) k ≡ Some x → IsStopped env text kept x r
+  unfolding pair_then
+  stopped_at ch x e = subst (λ z. IsStopped env text kept z r) (same_Some s.site x (sym there ∙ e)) is_stopped
+    where
+      there : slice_get (sites_refused kept (conditions_of env text kept ch)) k ≡ Some s.site
+      there = ap (λ ss. slice_get ss k) (sites_refused_left kept (conditions_of env text kept ch) ∙ ap sites_left (judged_of ch)) ∙ left_there h.carried.judged s.before k s.site false s.judged_so s.counts
+
+-- So of each report of a text of `let`, `;;` and exceptions without an argument that two types differ it is known which demand's it is, that of the site with its number among those that aren't kept, and that it shows the demand's two types, where none of the letters that are left is doubtful.
 pub values_stopped : {env : Environment} {text : List Tree} {a b : Sight} {G : Letters} (p : ItemsCarried (λ ch. env) (text_asks text) a [] b G) → AreOwned (items_of text) p.left → ((i k : ℕ) → a.types i k ≡ None) → IsSound a.nodes → has_values_alone text ≡ true → are_bare text ≡ true → AreSmall text → IsPlain b.nodes →
-    NoneDoubtful (letters_left p.left) → ArePlaced b → StopsItems (λ ch. env) (text_asks text) a [] b G p.left p.judged p.told → (k : ℕ) (r : Report) → slice_get p.told k ≡ Some r → r.kind ≡ fault.Equal → IsStopped env text (kept_of p.judged) r
-values_stopped {env} {text} {a} {b} {G} p owned none sound values bare small plain sure placed stops k r e kind =
+    NoneDoubtful (letters_left p.left) → ArePlaced b → StopsItems (λ ch. env) (text_asks text) a [] b G p.left p.judged p.told → (k : ℕ) (r : Report) → slice_get p.told k ≡ Some r → r.kind ≡ fault.Equal →
+    (ch : Choice) (s : Site) → slice_get (sites_refused (kept_of p.judged) (conditions_of env text (kept_of p.judged) ch)) k ≡ Some s → IsStopped env text (kept_of p.judged) s r
+values_stopped {env} {text} {a} {b} {G} p owned none sound values bare small plain sure placed stops k r e kind ch s at =
     let (h, principal, own_types, is) = sure_principal {env = env} {text = text} p owned none sound values bare small plain sure placed in
     let stops_here : StopsItems (λ ch. env) (text_asks text) a [] b G h.carried.left h.carried.judged h.carried.told = subst (λ (q : ItemsCarried (λ ch. env) (text_asks text) a [] b G). StopsItems (λ ch. env) (text_asks text) a [] b G q.left q.judged q.told) (sym is) stops in
     let owned_here : AreOwned (items_of text) h.carried.left = subst (λ (q : ItemsCarried (λ ch. env) (text_asks text) a [] b G). AreOwned (items_of text) q.left) (sym is) owned in
-    is_stopped (values_orderly {env = env} {text = text} values) (values_once env text values small) h placed plain
+    stopped_at (values_orderly {env = env} {text = text} values) (values_once env text values small) h placed plain
     (subst (λ (q : ItemsCarried (λ ch. env) (text_asks text) a [] b G). NoneDoubtful (letters_left q.left)) (sym is) sure) (owners_apart text values bare owned_here) (none_left text values bare owned_here)
-    (stops_here h.types (outermost env (kept_of p.judged) h.choice) h.reads k r (ap (λ (q : ItemsCarried (λ ch. env) (text_asks text) a [] b G). slice_get q.told k) is ∙ e) kind)
+    (stops_here h.types (outermost env (kept_of p.judged) h.choice) h.reads k r (ap (λ (q : ItemsCarried (λ ch. env) (text_asks text) a [] b G). slice_get q.told k) is ∙ e) kind) ch s at

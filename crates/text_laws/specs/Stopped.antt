@@ -15,10 +15,9 @@ use Rattle.typing_conditions.specs.Sights.{Report}
 use Rattle.typing_conditions.specs.Seeing.{StandsFor}
 use Rattle.typing_conditions.specs.Carrying.{without_values, ShowsBoth}
 
--- A report that two types differ is that of a demand of the text, which isn't kept: it is at the demand's place, and its message shows the nodes of a store whose own types are the demand's two types, with the
+-- A report that two types differ is that of the demand of a site, which isn't kept: it is at the demand's place, and its message shows the nodes of a store whose own types are the demand's two types, with the
 -- names of the code, which stand for those of an environment that is the one in which the demand's node is treated, but for values. No bound variable and no unknown type stands in them.
-pub record IsStopped (env : Environment) (text : List Tree) (kept : Site → Bool) (r : Report) : Type 0 where
-  pub site : Site
+pub record IsStopped (env : Environment) (text : List Tree) (kept : Site → Bool) (site : Site) (r : Report) : Type 0 where
   pub refused : kept site ≡ false
   pub nodes : List Node
   pub sound : IsSound nodes

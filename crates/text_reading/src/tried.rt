@@ -1,13 +1,11 @@
 //! A text that is tried in place of another, with what is kept of it from one such text to the next.
 ghost use Rattle.std.specs.Prelude.{◌≡◌, ◌≤◌, [], None, true, length, map, IfOk, OnOk};
 ghost use Rattle.text_model.specs.Edits.{text_limit};
-ghost use Rattle.typing_model.specs.Typable.{AreTypable};
 ghost use Rattle.fault_model.specs.Refused.{AreOfValues, AreRefused};
 ghost use Rattle.syntax_tree.specs.Tallies.{Grows};
 ghost use Rattle.syntax_tree.specs.View.{trees_of};
 ghost use Rattle.analysis_api.specs.Types.{AreTyped};
 ghost use Rattle.analysis_api.specs.Faults.{typer_fault_of};
-ghost use Rattle.analysis_api.specs.Warnings.{are_warnings};
 ghost use Rattle.text_reading.specs.Structures.{IsParsedAs};
 ghost use Rattle.text_reading.specs.Trials.{Tries};
 ghost use Rattle.text_reading.specs.Types.{has_begun, held, known, known_front, IsOf};
@@ -213,7 +211,6 @@ impl<A: Analyser> TriedText<A> {
         requires ready { self.now.ready ≡ true }
         ensures parsed { IsParsedAs self.now.text result.0.now }
         ensures found { IsOf A.items A.finds (trees_of result.0.now.tree) result.1 }
-        ensures silent { AreTypable (trees_of result.0.now.tree) → are_warnings result.1.faults.now.list.items ≡ true }
         ensures refused { AreOfValues (trees_of result.0.now.tree) → ∥ AreRefused (trees_of result.0.now.tree) (map typer_fault_of result.1.faults.now.list.items) ∥₁ }
         ensures typed { AreOfValues (trees_of result.0.now.tree) → ∥ AreTyped (trees_of result.0.now.tree) result.1 ∥₁ }
     {

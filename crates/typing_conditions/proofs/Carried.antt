@@ -21,7 +21,7 @@ use Rattle.typing_conditions.proofs.Stays.{stays_refl, stays_trans, stays_closed
 use Rattle.typing_conditions.specs.Hiding.{marked, HasCopy, AreDone, Owns}
 use Rattle.typing_conditions.proofs.Hiding.{settles_none, settles_both, given_marked, nodes_marked, placed_before, none_doubtful, none_both, copy_first, copy_second, keeps_same, done_on, owns_on}
 use Rattle.typing_conditions.specs.Meanings.{Means}
-use Rattle.typing_conditions.proofs.Stops.{none_stop, stops_both, stop_as, AreAround, stop_under, around_told, get_first, get_second, get_cases, stop_first, stop_within}
+use Rattle.typing_conditions.proofs.Stops.{none_stop, stops_both, stop_as, AreAround, stop_under, around_told, get_first, get_second, get_cases, stop_first, stop_within, stop_after}
 use Rattle.level_unify.proofs.Unified.{fits_loosely}
 use Rattle.level_unify.specs.Solutions.{Loose}
 
@@ -402,7 +402,7 @@ carried_told {F} {scope} {asks} {further} {a} {b} {c} {G} {H} {K} own told p q =
     stops : AreStops F scope (λ x. asks x ++ further x) a G c ((p.hidden ++ q.hidden) ++ K) (p.judged ++ q.judged) (p.told ++ q.told)
     stops k r e kind = elim (get_cases p.told q.told k r e) [
       | inl f ↦ stop_first further q.hidden q.judged p q.stays (p.stops k r f kind)
-      | inr (j, _, f) ↦ stop_within q.hidden q.judged refl here around p (λ V x loose under agrees named kept. refl) q.stays (q.stops j r f kind)
+      | inr (j, later, f) ↦ stop_after p j later (stop_within q.hidden q.judged refl here around p (λ V x loose under agrees named kept. refl) q.stays (q.stops j r f kind))
     ]
 
 -- what is carried around a row hides what the row does

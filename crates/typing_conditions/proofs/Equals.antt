@@ -198,7 +198,7 @@ equal_told {F} {scope} {G} {found} {wanted} {x} {y} {a} {b} {env} s at own sees 
     asked (suc k) t place d e = absurd (cc)
 
     -- the state before is where it is reported, and nothing is asked up to there
-    stop : (r : Report) → r.at ≡ at → r.message ≡ tells.report.message → Stop F scope (λ c. demand s at (equal (found c.chosen) (wanted c.chosen)) ∷ []) a G b G (judged_as s false) r
+    stop : (r : Report) → r.at ≡ at → r.message ≡ tells.report.message → Stop F scope (λ c. demand s at (equal (found c.chosen) (wanted c.chosen)) ∷ []) a G b G (judged_as s false) 0 r
     stop r place same = record {
       state = a;
       letters = G;
@@ -208,6 +208,7 @@ equal_told {F} {scope} {G} {found} {wanted} {x} {y} {a} {b} {env} s at own sees 
       site = s;
       before = 0;
       judged_so = refl;
+      counts = refl;
       shows = record { left = shows.left; right = shows.right; clash = shows.clash; clashes = shows.clashes; first = shows.first; second = shows.second; texts = shows.texts; says = same ∙ tells.says ∙ shows.says };
       unbound = no_bound p.open_node q.open_node;
       up_to = up_to_same a G;

@@ -34,13 +34,14 @@ judged_both kept (known t ∷ xs) ys = judged_both kept xs ys
 judged_both kept (demand s at d ∷ xs) ys = ap (λ js. judged_at s (kept s) (is_closing d) ∷ js) (judged_both kept xs ys)
 judged_both kept (treated n env ∷ xs) ys = judged_both kept xs ys
 
+-- what isn't kept of two lists
+pub refused_both : (xs ys : List Judgement) → refused (xs ++ ys) ≡ refused xs + refused ys
+refused_both [] ys = omega arith
+refused_both (x ∷ xs) ys = let h = refused_both xs ys in omega (arith, h)
+
 -- as many reports as refused demands, of one list and then of another
 pub counted_both : (xs ys : List Judgement) (rs ts : List Report) → length rs ≡ refused xs → length ts ≡ refused ys → length (rs ++ ts) ≡ refused (xs ++ ys)
-counted_both xs ys rs ts e f = length-append rs ts ∙ (λ i. e i + f i) ∙ sym (both xs)
-  where
-    both : (zs : List Judgement) → refused (zs ++ ys) ≡ refused zs + refused ys
-    both [] = omega arith
-    both (z ∷ zs) = let h = both zs in omega (arith, h)
+counted_both xs ys rs ts e f = length-append rs ts ∙ (λ i. e i + f i) ∙ sym (refused_both xs ys)
 
 -- what keeps judgements keeps the first of them
 pub kept_left : (kept : Site → Bool) (xs ys : List Judgement) → AreKept kept (xs ++ ys) → AreKept kept xs

@@ -242,7 +242,7 @@ module _ {F : Frame} {scope : Scope} {asks : Asks} {a b c d : Sight} {J : Types}
   }
 
   -- A demand that was reported further in was so in the frame around.
-  stop_out : {L : Letters} {judged : List Judgement} {r : Report} → Stop I scope asks b G c L judged r → Stop F scope asks a G d L judged r
+  stop_out : {L : Letters} {judged : List Judgement} {r : Report} {i : ℕ} → Stop I scope asks b G c L judged i r → Stop F scope asks a G d L judged i r
   stop_out {L} {judged} {r} s = record {
     state = s.state;
     letters = s.letters;
@@ -252,6 +252,7 @@ module _ {F : Frame} {scope : Scope} {asks : Asks} {a b c d : Sight} {J : Types}
     site = s.site;
     before = s.before;
     judged_so = s.judged_so;
+    counts = s.counts;
     shows = s.shows;
     unbound = s.unbound;
     up_to = record {

@@ -22,10 +22,10 @@ use Rattle.typing_conditions.specs.Sights.{Sight, Key, Letters, Report, Agrees}
 use Rattle.typing_conditions.specs.Frames.{Frame, Reaches}
 use Rattle.typing_conditions.specs.Hiding.{HasCopy, IsDone}
 use Rattle.typing_conditions.specs.Seeing.{IsSeen}
-use Rattle.typing_conditions.specs.Judging.{Judgement, judged_at, judgements, AreKept, Meets}
+use Rattle.typing_conditions.specs.Judging.{Judgement, judged_at, judgements, refused, AreKept, Meets}
 use Rattle.typing_conditions.specs.Carrying.{Asks, Scope, at_node, IsUnder, HoldsWritten, Enters, AreCopied, Stays, Continues, Carried, StopsAt, without_values, IsAround, UpTo, Lasts, GoesTo, ReadsAt, Stopped, Stop, AreStops}
 use Rattle.typing_conditions.proofs.Own.{own_of}
-use Rattle.typing_conditions.proofs.Judged.{hold_both, hold_left, hold_right, judged_both, kept_left, kept_right, given_left, given_right, given_both, nodes_both}
+use Rattle.typing_conditions.proofs.Judged.{hold_both, hold_left, hold_right, judged_both, refused_both, kept_left, kept_right, given_left, given_right, given_both, nodes_both}
 use Rattle.typing_conditions.proofs.Meaning.{nodes_in, given_same, open_unbound}
 use Rattle.typing_conditions.proofs.Hiding.{copy_itself, copy_of, copy_first, copy_second}
 use Rattle.typing_conditions.proofs.Stays.{agrees_before, named_before, enters_next}
@@ -100,7 +100,7 @@ lasts_hidden c hidden more K = lasts_same c (more ++ K) ((hidden ++ more) ++ K) 
 ])
 
 -- where the state after all is another one, with other letters
-pub stop_end : {F : Frame} {scope : Scope} {asks : Asks} {a b d : Sight} {G L M : Letters} {judged : List Judgement} {r : Report} → Lasts b L d M → Stop F scope asks a G b L judged r → Stop F scope asks a G d M judged r
+pub stop_end : {F : Frame} {scope : Scope} {asks : Asks} {a b d : Sight} {G L M : Letters} {judged : List Judgement} {r : Report} {i : ℕ} → Lasts b L d M → Stop F scope asks a G b L judged i r → Stop F scope asks a G d M judged i r
 stop_end lasts s = record {
   state = s.state;
   letters = s.letters;
@@ -110,6 +110,7 @@ stop_end lasts s = record {
   site = s.site;
   before = s.before;
   judged_so = s.judged_so;
+  counts = s.counts;
   shows = s.shows;
   unbound = s.unbound;
   up_to = s.up_to;
@@ -205,8 +206,8 @@ bound_on {a = a} {b = b} s r v bound =
     bound_there b.nodes v (Var bound_level scope) ((s.refines r own.0 own.1).bounds v scope at) refl
 
 -- A stop of a first call is one with more conditions after it.
-pub stop_first : {F : Frame} {scope : Scope} {asks : Asks} {a b c : Sight} {G H K : Letters} (further : Asks) (hidden : Letters) (judged : List Judgement) {r : Report} (p : Carried F scope asks a G b H) → Stays F b H c K → Stop F scope asks a G b (p.hidden ++ H) p.judged r →
-    Stop F scope (λ x. asks x ++ further x) a G c ((p.hidden ++ hidden) ++ K) (p.judged ++ judged) r
+pub stop_first : {F : Frame} {scope : Scope} {asks : Asks} {a b c : Sight} {G H K : Letters} (further : Asks) (hidden : Letters) (judged : List Judgement) {r : Report} {i : ℕ} (p : Carried F scope asks a G b H) → Stays F b H c K → Stop F scope asks a G b (p.hidden ++ H) p.judged i r →
+    Stop F scope (λ x. asks x ++ further x) a G c ((p.hidden ++ hidden) ++ K) (p.judged ++ judged) i r
 stop_first {F} {scope} {asks} {a} {b} {c} {G} {H} {K} further hidden judged {r} p stays s = record {
   state = s.state;
   letters = s.letters;
@@ -216,6 +217,7 @@ stop_first {F} {scope} {asks} {a} {b} {c} {G} {H} {K} further hidden judged {r} 
   site = s.site;
   before = s.before;
   judged_so = get_first p.judged judged s.before (judged_at s.site false false) s.judged_so;
+  counts = ap refused (take-append-le s.before p.judged judged (let lt = slice_get_within p.judged s.before (judged_at s.site false false) s.judged_so in omega arith)) ∙ s.counts;
   shows = s.shows;
   unbound = s.unbound;
   up_to = s.up_to;
@@ -256,10 +258,10 @@ agrees_up_to {V = V} {ch = ch} u g = record {
 
 -- A stop of a second call is one after the conditions of the first, where what is asked then is what the second was asked, and its demand is one of a node whose demands are made there,
 -- or of which the first conditions say that it is treated.
-pub stop_within : {F : Frame} {scope inner : Scope} {asks further actual : Asks} {a b c : Sight} {G H K : Letters} (hidden : Letters) (judged : List Judgement) {r : Report} → inner.held ≡ scope.held → ((x : Context) → IsUnder scope x → IsUnder inner x) →
+pub stop_within : {F : Frame} {scope inner : Scope} {asks further actual : Asks} {a b c : Sight} {G H K : Letters} (hidden : Letters) (judged : List Judgement) {r : Report} {i : ℕ} → inner.held ≡ scope.held → ((x : Context) → IsUnder scope x → IsUnder inner x) →
     ((x : Context) → IsUnder scope x → (n : ℕ) (env : Environment) (cs : List Condition) → IsAround inner x n env cs → IsAround scope x n env (asks x ++ cs)) → (p : Carried F scope asks a G b H) →
-    ((V : Types) (x : Context) → Loose a.nodes V → IsUnder scope x → Agrees F.owner a G V x.chosen → HoldsWritten scope a → AreKept x.kept p.judged → further x ≡ actual x) → Stays F b H c K → Stop F inner actual b H c (hidden ++ K) judged r →
-    Stop F scope (λ x. asks x ++ further x) a G c ((p.hidden ++ hidden) ++ K) (p.judged ++ judged) r
+    ((V : Types) (x : Context) → Loose a.nodes V → IsUnder scope x → Agrees F.owner a G V x.chosen → HoldsWritten scope a → AreKept x.kept p.judged → further x ≡ actual x) → Stays F b H c K → Stop F inner actual b H c (hidden ++ K) judged i r →
+    Stop F scope (λ x. asks x ++ further x) a G c ((p.hidden ++ hidden) ++ K) (p.judged ++ judged) (refused p.judged + i) r
 stop_within {F} {scope} {inner} {asks} {further} {actual} {a} {b} {c} {G} {H} {K} hidden judged {r} held has around p by_kept stays s = record {
   state = s.state;
   letters = p.hidden ++ s.letters;
@@ -269,6 +271,7 @@ stop_within {F} {scope} {inner} {asks} {further} {actual} {a} {b} {c} {G} {H} {K
   site = s.site;
   before = length p.judged + s.before;
   judged_so = get_second p.judged judged s.before ∙ s.judged_so;
+  counts = ap refused (take-append-add p.judged judged s.before) ∙ refused_both p.judged (take s.before judged) ∙ ap (λ m. refused p.judged + m) s.counts;
   shows = s.shows;
   unbound = s.unbound;
   up_to = record {
@@ -395,10 +398,14 @@ stop_within {F} {scope} {inner} {asks} {further} {actual} {a} {b} {c} {G} {H} {K
         h = s.reads (p.stays.reaches q) V x (record { under = has x l.under; reads = l.reads; agrees = here; named = named_in s.state l.named; unbound = λ k y e v bound. l.unbound k y (ap (λ xs. slice_get xs k) (sym held) ∙ e) v bound; kept = kept_right x.kept p.judged judged l.kept; known = l.known })
 
 -- the same in one scope
-pub stop_then : {F : Frame} {scope : Scope} {asks further actual : Asks} {a b c : Sight} {G H K : Letters} (hidden : Letters) (judged : List Judgement) {r : Report} (p : Carried F scope asks a G b H) →
-    ((V : Types) (x : Context) → Loose a.nodes V → IsUnder scope x → Agrees F.owner a G V x.chosen → HoldsWritten scope a → AreKept x.kept p.judged → further x ≡ actual x) → Stays F b H c K → Stop F scope actual b H c (hidden ++ K) judged r →
-    Stop F scope (λ x. asks x ++ further x) a G c ((p.hidden ++ hidden) ++ K) (p.judged ++ judged) r
+pub stop_then : {F : Frame} {scope : Scope} {asks further actual : Asks} {a b c : Sight} {G H K : Letters} (hidden : Letters) (judged : List Judgement) {r : Report} {i : ℕ} (p : Carried F scope asks a G b H) →
+    ((V : Types) (x : Context) → Loose a.nodes V → IsUnder scope x → Agrees F.owner a G V x.chosen → HoldsWritten scope a → AreKept x.kept p.judged → further x ≡ actual x) → Stays F b H c K → Stop F scope actual b H c (hidden ++ K) judged i r →
+    Stop F scope (λ x. asks x ++ further x) a G c ((p.hidden ++ hidden) ++ K) (p.judged ++ judged) (refused p.judged + i) r
 stop_then {scope = scope} {asks = asks} hidden judged p by_kept stays s = stop_within hidden judged refl (λ x u. u) (λ x u n env cs. around_second scope x n env (asks x) cs) p by_kept stays s
+
+-- A report of a second call comes after those of the first, which are as many as demands of it that aren't kept.
+pub stop_after : {F : Frame} {scope : Scope} {asks whole : Asks} {a b c : Sight} {G H L : Letters} {judged : List Judgement} {r : Report} {k : ℕ} (p : Carried F scope asks a G b H) (j : ℕ) → k ≡ length p.told + j → Stop F scope whole a G c L judged (refused p.judged + j) r → Stop F scope whole a G c L judged k r
+stop_after {F} {scope} {whole = whole} {a = a} {c = c} {G = G} {L = L} {judged = judged} {r = r} p j e s = subst (λ n. Stop F scope whole a G c L judged n r) (sym (e ∙ ap (λ n. n + j) p.counted)) s
 
 -- the stops of two calls, one after the other
 pub stops_both : {F : Frame} {scope : Scope} {asks further actual : Asks} {a b c : Sight} {G H K : Letters} (p : Carried F scope asks a G b H) →
@@ -406,11 +413,11 @@ pub stops_both : {F : Frame} {scope : Scope} {asks further actual : Asks} {a b c
     AreStops F scope (λ x. asks x ++ further x) a G c ((p.hidden ++ q.hidden) ++ K) (p.judged ++ q.judged) (p.told ++ q.told)
 stops_both {further = further} p by_kept q k r e kind = elim (get_cases p.told q.told k r e) [
   | inl f ↦ stop_first further q.hidden q.judged p q.stays (p.stops k r f kind)
-  | inr (j, _, f) ↦ stop_then q.hidden q.judged p by_kept q.stays (q.stops j r f kind)
+  | inr (j, later, f) ↦ stop_after p j later (stop_then q.hidden q.judged p by_kept q.stays (q.stops j r f kind))
 ]
 
 -- the conditions may be written in another way
-pub stop_as : {F : Frame} {scope : Scope} {asks others : Asks} {a b : Sight} {G L : Letters} {judged : List Judgement} {r : Report} → ((c : Context) → asks c ≡ others c) → Stop F scope asks a G b L judged r → Stop F scope others a G b L judged r
+pub stop_as : {F : Frame} {scope : Scope} {asks others : Asks} {a b : Sight} {G L : Letters} {judged : List Judgement} {r : Report} {i : ℕ} → ((c : Context) → asks c ≡ others c) → Stop F scope asks a G b L judged i r → Stop F scope others a G b L judged i r
 stop_as {scope = scope} {asks = asks} {others = others} {r = r} same s = record {
   state = s.state;
   letters = s.letters;
@@ -420,6 +427,7 @@ stop_as {scope = scope} {asks = asks} {others = others} {r = r} same s = record 
   site = s.site;
   before = s.before;
   judged_so = s.judged_so;
+  counts = s.counts;
   shows = s.shows;
   unbound = s.unbound;
   up_to = s.up_to;
@@ -429,11 +437,11 @@ stop_as {scope = scope} {asks = asks} {others = others} {r = r} same s = record 
 }
 
 -- where conditions that ask no demand, and hide nothing, come after
-pub stop_silent : {F : Frame} {scope : Scope} {asks : Asks} {a b c : Sight} {G H K : Letters} (further : Asks) {r : Report} (p : Carried F scope asks a G b H) → Stays F b H c K → Stop F scope asks a G b (p.hidden ++ H) p.judged r →
-    Stop F scope (λ x. asks x ++ further x) a G c (p.hidden ++ K) p.judged r
-stop_silent {F} {scope} {asks} {a} {b} {c} {G} {H} {K} further {r} p stays s =
-    subst (λ hs. Stop F scope (λ x. asks x ++ further x) a G c (hs ++ K) p.judged r) (append-nil p.hidden)
-    (subst (λ js. Stop F scope (λ x. asks x ++ further x) a G c ((p.hidden ++ []) ++ K) js r) (append-nil p.judged) (stop_first further [] [] p stays s))
+pub stop_silent : {F : Frame} {scope : Scope} {asks : Asks} {a b c : Sight} {G H K : Letters} (further : Asks) {r : Report} {i : ℕ} (p : Carried F scope asks a G b H) → Stays F b H c K → Stop F scope asks a G b (p.hidden ++ H) p.judged i r →
+    Stop F scope (λ x. asks x ++ further x) a G c (p.hidden ++ K) p.judged i r
+stop_silent {F} {scope} {asks} {a} {b} {c} {G} {H} {K} further {r} {i} p stays s =
+    subst (λ hs. Stop F scope (λ x. asks x ++ further x) a G c (hs ++ K) p.judged i r) (append-nil p.hidden)
+    (subst (λ js. Stop F scope (λ x. asks x ++ further x) a G c ((p.hidden ++ []) ++ K) js i r) (append-nil p.judged) (stop_first further [] [] p stays s))
 
 -- a condition that is no demand, and holds where no unknown type stands in the types of nodes
 pub record IsSilent (one : Context → Condition) : Type 0 where
@@ -442,7 +450,7 @@ pub record IsSilent (one : Context → Condition) : Type 0 where
   pub holds : (c : Context) → ((n : ℕ) → IsKnown (c.chosen.type_at n)) → Holds c.kept (one c)
 
 -- it may come before
-pub stop_cons : {F : Frame} {scope : Scope} {asks : Asks} {a b : Sight} {G L : Letters} {judged : List Judgement} {r : Report} (one : Context → Condition) → IsSilent one → Stop F scope asks a G b L judged r → Stop F scope (λ c. one c ∷ asks c) a G b L judged r
+pub stop_cons : {F : Frame} {scope : Scope} {asks : Asks} {a b : Sight} {G L : Letters} {judged : List Judgement} {r : Report} {i : ℕ} (one : Context → Condition) → IsSilent one → Stop F scope asks a G b L judged i r → Stop F scope (λ c. one c ∷ asks c) a G b L judged i r
 stop_cons {F} {scope} {asks} {a} {b} {G} {L} {judged} {r} one is s = record {
   state = s.state;
   letters = s.letters;
@@ -452,6 +460,7 @@ stop_cons {F} {scope} {asks} {a} {b} {G} {L} {judged} {r} one is s = record {
   site = s.site;
   before = s.before;
   judged_so = s.judged_so;
+  counts = s.counts;
   shows = s.shows;
   unbound = s.unbound;
   up_to = s.up_to;
@@ -502,8 +511,8 @@ around_told scope rest n c u zero m env s at d e (inr h) = absurd (cc)
 around_told scope rest n c u (suc k) m env s at d e (inr (one, here)) = inl (c.env, (zero, ap (λ x. Some (treated x c.env)) (eqb-true n m one)), here)
 
 -- a stop in a context by one in another that it decides
-pub stop_under : {F : Frame} {scope inner : Scope} {asks : Asks} {a b : Sight} {G L : Letters} {judged : List Judgement} {r : Report} (into : Context → Context) → inner.held ≡ scope.held → ((c : Context) → ((into c).kept ≡ c.kept) × ((into c).chosen ≡ c.chosen)) →
-    ((c : Context) → IsUnder scope c → IsUnder inner (into c)) → AreAround scope inner into asks → Stop F inner asks a G b L judged r → Stop F scope (λ c. asks (into c)) a G b L judged r
+pub stop_under : {F : Frame} {scope inner : Scope} {asks : Asks} {a b : Sight} {G L : Letters} {judged : List Judgement} {r : Report} {i : ℕ} (into : Context → Context) → inner.held ≡ scope.held → ((c : Context) → ((into c).kept ≡ c.kept) × ((into c).chosen ≡ c.chosen)) →
+    ((c : Context) → IsUnder scope c → IsUnder inner (into c)) → AreAround scope inner into asks → Stop F inner asks a G b L judged i r → Stop F scope (λ c. asks (into c)) a G b L judged i r
 stop_under {F} {scope} {inner} {asks} {a} {b} {G} {L} {judged} {r} into held still has around s = record {
   state = s.state;
   letters = s.letters;
@@ -513,6 +522,7 @@ stop_under {F} {scope} {inner} {asks} {a} {b} {G} {L} {judged} {r} into held sti
   site = s.site;
   before = s.before;
   judged_so = s.judged_so;
+  counts = s.counts;
   shows = s.shows;
   unbound = s.unbound;
   up_to = s.up_to;
@@ -545,8 +555,8 @@ stop_under {F} {scope} {inner} {asks} {a} {b} {G} {L} {judged} {r} into held sti
     named_in x named y m e = let (k, f) = named y m e in (k, ap (λ xs. slice_get xs k) held ∙ f)
 
 -- Conditions may be written in another way, where they are the same in each context that the state before allows.
-pub stop_here : {F : Frame} {scope : Scope} {asks others : Asks} {a b : Sight} {G L : Letters} {judged : List Judgement} {r : Report} →
-    ((V : Types) (c : Context) → Loose a.nodes V → IsUnder scope c → Agrees F.owner a G V c.chosen → HoldsWritten scope a → asks c ≡ others c) → Stop F scope asks a G b L judged r → Stop F scope others a G b L judged r
+pub stop_here : {F : Frame} {scope : Scope} {asks others : Asks} {a b : Sight} {G L : Letters} {judged : List Judgement} {r : Report} {i : ℕ} →
+    ((V : Types) (c : Context) → Loose a.nodes V → IsUnder scope c → Agrees F.owner a G V c.chosen → HoldsWritten scope a → asks c ≡ others c) → Stop F scope asks a G b L judged i r → Stop F scope others a G b L judged i r
 stop_here {F} {scope} {asks} {others} {a} {b} {G} {L} {judged} {r} same s = record {
   state = s.state;
   letters = s.letters;
@@ -556,6 +566,7 @@ stop_here {F} {scope} {asks} {others} {a} {b} {G} {L} {judged} {r} same s = reco
   site = s.site;
   before = s.before;
   judged_so = s.judged_so;
+  counts = s.counts;
   shows = s.shows;
   unbound = s.unbound;
   up_to = s.up_to;

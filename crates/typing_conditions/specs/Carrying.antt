@@ -215,8 +215,8 @@ pub record Stopped (scope : Scope) (cs : List Condition) (n : ℕ) (s : Site) (a
 
 -- A demand that two types are one was reported, and its message shows the types as they were then: `state` is the one before it, with the letters that were open or hidden up to there.
 -- No bound variable stands in the two nodes. `enters`: types that enter the state before all, and meet the conditions before the demand, go on to it, and the demand is that theirs are one. `reads`: where typing reached the state before all, each reading of this one
--- meets the conditions before the demand, which is that the types of the two nodes are one. The demand is the one of the place `before` among those that are judged.
-pub record Stop (F : Frame) (scope : Scope) (asks : Asks) (a : Sight) (G : Letters) (b : Sight) (L : Letters) (judged : List Judgement) (r : Report) : Type 0 where
+-- meets the conditions before the demand, which is that the types of the two nodes are one. The demand is the one of the place `before` among those that are judged, and `earlier` of those before it aren't kept.
+pub record Stop (F : Frame) (scope : Scope) (asks : Asks) (a : Sight) (G : Letters) (b : Sight) (L : Letters) (judged : List Judgement) (earlier : ℕ) (r : Report) : Type 0 where
   pub state : Sight
   pub letters : Letters
   pub found : NodeRef
@@ -225,6 +225,7 @@ pub record Stop (F : Frame) (scope : Scope) (asks : Asks) (a : Sight) (G : Lette
   pub site : Site
   pub before : ℕ
   pub judged_so : slice_get judged before ≡ Some (judged_at site false false)
+  pub counts : refused (take before judged) ≡ earlier
   pub shows : ShowsBoth state.nodes names found wanted r.message
   pub unbound : HaveNoBound state.nodes found.0 wanted.0
   pub up_to : UpTo F a G state letters
@@ -232,9 +233,9 @@ pub record Stop (F : Frame) (scope : Scope) (asks : Asks) (a : Sight) (G : Lette
   pub enters : HoldsWritten scope b → (V : Types) (c : Context) → Enters F scope a G V c → AreKept c.kept judged → (k : ℕ) (s : Site) (at : Place) (d : Demand) → StopsAt c.kept (asks c) before k s at d → GoesTo F a state letters found wanted d V c.chosen
   pub reads : Reaches F a → (V : Types) (c : Context) → ReadsAt F scope state letters judged V c → Stopped scope (asks c) before site r.at found wanted names V c
 
--- each report that two types differ has such a stop
+-- each report that two types differ has such a stop, at a demand before which as many aren't kept as reports come before it
 abbrev pub AreStops : Frame → Scope → Asks → Sight → Letters → Sight → Letters → List Judgement → List Report → Type 0
-AreStops F scope asks a G b L judged told = (k : ℕ) (r : Report) → slice_get told k ≡ Some r → r.kind ≡ fault.Equal → Stop F scope asks a G b L judged r
+AreStops F scope asks a G b L judged told = (k : ℕ) (r : Report) → slice_get told k ≡ Some r → r.kind ≡ fault.Equal → Stop F scope asks a G b L judged k r
 
 -- What conditions ask was done, from one state to another, where the letters G are open before and G' after.
 -- `sound`: where typing in the frame reached the state before, each reading of the state after meets the conditions, under the demands that were kept, and what

@@ -1,4 +1,4 @@
--- Conditions among which no demand is that a body closes.
+-- Conditions among which no demand compares signatures: none that one matches, and none that a body closes.
 use Rattle.std.proofs.Common.{◌≡◌, ℕ, ◌+◌, Bool, true, false, List, [], ◌∷◌, ◌++◌, map, Option, Some, None, refl, if◌then◌else◌}
 use Rattle.token_model.specs.Kinds.{Tok, Kind, int, float, char, str, unit, nil, true_word, false_word}
 use Rattle.tree_model.specs.Trees.{Place}
@@ -14,12 +14,12 @@ use Rattle.typing_model.specs.BuiltIns.{constant, constant_by}
 use Rattle.typing_model.specs.Records.{ask_record, ask_once, first_lost, first_token, field_type, name_in}
 use Rattle.typing_model.specs.TypeExpressions.{index_from, variable_asks, tvar, read_all, declared_type, constructor_asks, tcon, tapp, in_parentheses, equal_of_one, tparen, ttuple, tarrow}
 use Rattle.typing_model.specs.Patterns.{matched_all, matched_each, ask_all, over, pname, papp, pparen, por, pas, match_pun, match_field, match_fields, precord, kept_record, with_built, built_by, constructor_alone, argument_has, of_one_type, applied_constructor, argument_type, common_names, sides_differ, name_apart, sides_beside, find_bound, labels_of_fields, mentions_in_field}
-use Rattle.typing_laws.proofs.Together.{is_end}
+use Rattle.typing_laws.proofs.Together.{on_signatures}
 use Rattle.typing_laws.proofs.Steady.{Each, no_one, one_and, each_append, IfThere, absent, there}
 
 pub data Quiet : List Condition → Type 0 where
   silence : Quiet []
-  q_demand : {s : Site} {p : Place} {d : Demand} {cs : List Condition} → is_end d ≡ false → Quiet cs → Quiet (demand s p d ∷ cs)
+  q_demand : {s : Site} {p : Place} {d : Demand} {cs : List Condition} → on_signatures d ≡ false → Quiet cs → Quiet (demand s p d ∷ cs)
   q_same : {t u : Typ} {cs : List Condition} → Quiet cs → Quiet (same t u ∷ cs)
   q_instance : {s : Scheme} {t : Typ} {cs : List Condition} → Quiet cs → Quiet (instance s t ∷ cs)
   q_made : {n : ℕ} {t : Typ} {cs : List Condition} → Quiet cs → Quiet (made n t ∷ cs)
@@ -39,9 +39,9 @@ pub if_quiet : (b : Bool) {xs ys : List Condition} → Quiet xs → Quiet ys →
 if_quiet true h g = h
 if_quiet false h g = g
 
--- a place and a demand that is no closing
+-- a place and a demand that compares no signatures
 pub record NoEnd (d : Place × Demand) : Type 0 where
-  pub no : is_end d.1 ≡ false
+  pub no : on_signatures d.1 ≡ false
 
 pub all_quiet : (n k : ℕ) (ds : List (Place × Demand)) → Each NoEnd ds → Quiet (ask_all n k ds)
 all_quiet n k [] no_one = silence

@@ -1,4 +1,4 @@
--- A text without modules asks for no closing.
+-- A text without modules makes no demand on signatures, so it asks for no closing.
 use Rattle.std.proofs.Common.{◌≡◌, ℕ, ◌+◌, ◌==◌, Bool, true, false, not, List, [], ◌∷◌, ◌++◌, filter_map, length, Option, Some, None, option_map, refl, sym, subst, if◌then◌else◌}
 use Rattle.token_model.specs.Kinds.{Tok}
 use Rattle.tree_model.specs.Trees.{Place, place, Tree, Forest, Part, node, no_parts, part, taken, inner, missing, part_size, part_yield}
@@ -24,7 +24,7 @@ use Rattle.typing_model.specs.Meanings.{binding_of, case_of, field_of, field_pat
 use Rattle.typing_model.specs.Typings.{outermost, conditions_of, no_choice, body_in, body_asked, body_at, is_closing}
 use Rattle.typing_model.specs.Plain.{is_plain_row, is_plain_item, has_no_modules}
 use Rattle.typing_laws.proofs.Bools.{no_yes, and_cases}
-use Rattle.typing_laws.proofs.Together.{is_end}
+use Rattle.typing_laws.proofs.Together.{on_signatures}
 use Rattle.typing_laws.proofs.Steady.{Each, no_one, one_and, each_append, IfThere, absent, there}
 use Rattle.typing_laws.proofs.SteadyRows.{mapped, filtered, first_there, then_there}
 use Rattle.typing_laws.proofs.SteadyDeclarations.{OneAsked, reexport_one}
@@ -81,7 +81,7 @@ told_quiet : (c : Context) (all : List DeclarationPart) (x : Option Tok) (arity 
 told_quiet c all x arity n t l None = silence
 told_quiet c all x arity n t l (Some r) =
     let one : OneAsked (site n 0) t.at (reexport_asked c (names_itself c all x t.mentions) n arity t (token_name l) (shape_of c r)) = reexport_one c (names_itself c all x t.mentions) n arity t (token_name l) (shape_of c r) in
-    subst Quiet (sym one.all) (q_demand one.no_end silence)
+    subst Quiet (sym one.all) (q_demand one.no_signature silence)
 
 right_quiet : (c : Context) (all : List DeclarationPart) (x : Option Tok) (arity : ℕ) (o : Option RightSide) → IfThere QuietRight o → Quiet (right_asks c all x arity o)
 right_quiet c all x arity None absent = silence
@@ -383,7 +383,7 @@ all_items_quiet c seen (i ∷ xs) (one_and s each) = also (s.asks c seen) (all_i
 abbrev has_body : Option (Environment × Signature) → Bool
 has_body o = elim o [ None ↦ false | Some b ↦ true ]
 
-no_body : (d : Demand) → is_end d ≡ false → has_body (body_in d) ≡ false
+no_body : (d : Demand) → on_signatures d ≡ false → has_body (body_in d) ≡ false
 no_body (equal t u) e = refl
 no_body (test c b) e = refl
 no_body (agrees c n s t) e = refl
@@ -403,7 +403,7 @@ quiet_site s (q_made h) = quiet_site s h
 quiet_site s (q_known h) = quiet_site s h
 quiet_site s (q_treated h) = quiet_site s h
 
--- a text without modules asks for no closing, whatever is kept and chosen
+-- a text without modules makes no demand on signatures, whatever is kept and chosen
 pub text_quiet : (env : Environment) (text : List Tree) (kept : Site → Bool) (choice : Choice) → has_no_modules text ≡ true → Quiet (conditions_of env text kept choice)
 text_quiet env text kept choice plain = all_items_quiet (outermost env kept choice) no_names (items_of text) (items_quiet 1 text plain)
 

@@ -15,7 +15,7 @@ use Rattle.typing_model.specs.Parts.{place_of, TypeExpression, ConstructorPart, 
 use Rattle.typing_model.specs.Declarations.{shape_of, token_name, names_itself, declaration_of, type_entry, entries_of_part, entries_of_group, names_of_types, names_of_tokens, names_asked, read_optional, constructors_read, labels_read, shape_asks, told_of, reexport_asked, right_asks, declaration_asks, declarations_ask, group_asks, exception_asks, new_tokens}
 use Rattle.typing_model.specs.Patterns.{ask_all}
 use Rattle.typing_model.specs.Items.{type_components, origin_by, origins_of_group}
-use Rattle.typing_laws.proofs.Together.{Kept, keeping, is_end, Together, at_end, at_demand, at_treated, Agreed, agree_first, agree_left, agree_right, alone, behind}
+use Rattle.typing_laws.proofs.Together.{Kept, keeping, is_end, on_signatures, Together, at_end, at_demand, at_treated, Agreed, agree_first, agree_left, agree_right, alone, behind}
 use Rattle.typing_laws.proofs.Steady.{Each, no_one, one_and, IfThere, absent, there, declares, TypesAlike, SteadyType, SteadyConstructor, SteadyLabel, SteadyTold, of_constructors, of_labels, SteadyRight, of_another, of_own, SteadyDeclaration, as_itself}
 
 -- environments that find types alike do so behind a type of one name
@@ -59,15 +59,16 @@ shape_alike c E F (Some (labels ls)) h (there (of_labels each)) = behind (labels
 pub record OneAsked (s : Site) (q : Place) (cs : List Condition) : Type 0 where
   pub what : Demand
   pub no_end : is_end what ≡ false
+  pub no_signature : on_signatures what ≡ false
   pub all : cs ≡ demand s q what ∷ []
 
 pub reexport_one : (c : Context) (b : Bool) (n arity : ℕ) (t : TypeExpression) (x : Name) (shape : Shape) → OneAsked (site n 0) t.at (reexport_asked c b n arity t x shape)
-reexport_one c true n arity t x shape = record { what = test (differs x) false; no_end = refl; all = refl }
+reexport_one c true n arity t x shape = record { what = test (differs x) false; no_end = refl; no_signature = refl; all = refl }
 reexport_one c false n arity t x shape = by (told_of c.env (type_at c t.node)) refl
   where
     by : (o : Option Shape) → told_of c.env (type_at c t.node) ≡ o → OneAsked (site n 0) t.at (reexport_asked c false n arity t x shape)
-    by None e = rw (e, reexport_asked) (record { what = test (differs x) true; no_end = refl; all = refl })
-    by (Some actual) e = rw (e, reexport_asked) (record { what = agrees (differs x) arity actual shape; no_end = refl; all = refl })
+    by None e = rw (e, reexport_asked) (record { what = test (differs x) true; no_end = refl; no_signature = refl; all = refl })
+    by (Some actual) e = rw (e, reexport_asked) (record { what = agrees (differs x) arity actual shape; no_end = refl; no_signature = refl; all = refl })
 
 one_together : {k m : Kept} (s : Site) (q : Place) (xs ys : List Condition) → OneAsked s q xs → OneAsked s q ys → Together k m xs ys
 one_together {k} {m} s q xs ys a b =

@@ -22,6 +22,14 @@ is_end (agrees c n s t) = false
 is_end (matches a t) = false
 is_end (closes e s) = true
 
+-- whether a demand compares signatures
+abbrev pub on_signatures : Demand → Bool
+on_signatures (equal t u) = false
+on_signatures (test c b) = false
+on_signatures (agrees c n s t) = false
+on_signatures (matches a t) = true
+on_signatures (closes e s) = true
+
 -- two lists of conditions have the same demands, in order, up to the first that one keeps and the other doesn't
 pub data Together (k m : Kept) : List Condition → List Condition → Type 0 where
   at_end : Together k m [] []

@@ -2,14 +2,12 @@
 ghost use Rattle.std.specs.Prelude.{◌≡◌, ◌+◌, ◌-◌, ◌≤◌, ℕ, List, [], None, Some, false, true, is_some, length, map, min, take, option_map, IfOk, IfSome, OnErr, OnOk};
 ghost use Rattle.token_model.specs.Kinds.{Tok};
 ghost use Rattle.token_model.specs.Tokens.{Lex};
-ghost use Rattle.typing_model.specs.Typable.{AreTypable};
 ghost use Rattle.fault_model.specs.Refused.{AreOfValues, AreRefused};
 ghost use Rattle.syntax_tree.specs.Tallies.{Grows};
 ghost use Rattle.syntax_tree.specs.View.{trees_of};
 ghost use Rattle.analysis_api.specs.Types.{AreTyped, AreSettled};
 ghost use Rattle.analysis_api.specs.Typed.{more_typed, GoesOn, LongestFront, SameFront};
 ghost use Rattle.analysis_api.specs.Faults.{typer_fault_of};
-ghost use Rattle.analysis_api.specs.Warnings.{are_warnings};
 ghost use Rattle.kept_text.specs.Keeping.{read_behind, shifted_behind, trees_in};
 ghost use Rattle.text_reading.specs.Types.{has_begun, held, holds_in, items_in, known, known_front, opening, IsOf};
 
@@ -24,7 +22,6 @@ impl<'a, A: Analyser> Found<'a, A> {
     /// What was found.
     pub fn analysis(&self) -> Analysis<'_>
         ensures found { IsOf A.items A.finds (items_in A.items self.now) result }
-        ensures silent { AreTypable (items_in A.items self.now) → are_warnings result.faults.now.list.items ≡ true }
         ensures refused { AreOfValues (items_in A.items self.now) → ∥ AreRefused (items_in A.items self.now) (map typer_fault_of result.faults.now.list.items) ∥₁ }
         ensures typed { AreOfValues (items_in A.items self.now) → ∥ AreTyped (items_in A.items self.now) result ∥₁ }
         ensures settled { holds_in A.is_settled self.now → AreOfValues (items_in A.items self.now) → ∥ AreSettled (items_in A.items self.now) result ∥₁ }

@@ -30,7 +30,7 @@ propose-requires g c =
     record {
       parsed = subst (λ (t : List ℕ). IsParsedAs t parsed) (sym c.text.ensures) here;
       typed = subst (λ (t : List ℕ). TyperFaults t (map typer_fault_of c.analysis-analysis.result.faults.now.list.items)) (sym c.text.ensures)
-          (typer_found c.args.self.now.text parsed (items_in g.A.Analyser.items c.in_ok-found.found) c.analysis-analysis.result.faults.now.list.items here c.in_ok-found.ensures.items c.analysis-analysis.ensures.silent c.analysis-analysis.ensures.refused);
+          (typer_found c.args.self.now.text parsed (items_in g.A.Analyser.items c.in_ok-found.found) c.analysis-analysis.result.faults.now.list.items here c.in_ok-found.ensures.items c.analysis-analysis.ensures.refused);
       found = subst (λ (ts : List Tree). IsOf g.A.Analyser.items g.A.Analyser.finds ts c.analysis-analysis.result) c.in_ok-found.ensures.items c.analysis-analysis.ensures.found;
     }
 

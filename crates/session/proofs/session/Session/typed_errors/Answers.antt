@@ -21,7 +21,7 @@ returns-clause-said g c =
     let are = subst (λ (p : Parsed). IsParsedAs c.self.inside.kept.text p) (sym c.get-parsed.ensures) c.in_ok-read.ensures.parsed in
     let here = subst (λ (t : List ℕ). IsParsedAs t parsed) (ap (λ (h : Held). h.text) c.self.view_is) are in
     said_then (λ s. s ≡ faults_said text (map fault_of syntax ++ map by_typer (map typer_fault_of typed))) (AreFaultsOf text) c.page_of.result
-    (λ s page. faults_found text parsed (items_in g.A.Analyser.items c.in_ok-found.found) c.analysis.result.faults.now.list.items s here c.in_ok-found.ensures.items c.analysis.ensures.silent c.analysis.ensures.refused
+    (λ s page. faults_found text parsed (items_in g.A.Analyser.items c.in_ok-found.found) c.analysis.result.faults.now.list.items s here c.in_ok-found.ensures.items c.analysis.ensures.refused
     (subst (λ (us : List Fault). s ≡ faults_said text (map fault_of parsed.faults.items ++ map by_typer (map typer_fault_of us))) c.deref-2.ensures.value
     (subst (λ (fs : List SyntaxFault). s ≡ faults_said text (map fault_of fs ++ map by_typer (map typer_fault_of typed))) c.deref.ensures.value page)))
     c.page_of.ensures

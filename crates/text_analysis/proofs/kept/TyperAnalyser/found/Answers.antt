@@ -1,10 +1,8 @@
 use Rattle.std.proofs.Common.{refl, sym, subst, arith}
-use mathlib.Core.Bool.{Bool-set}
-use Rattle.std.proofs.Math.Logic.{∥∥₁_elim, ∥∥₁_map}
+use Rattle.std.proofs.Math.Logic.{∥∥₁_map}
 use Rattle.text_analysis.specs.Items.{views_of}
 use Rattle.text_analysis.proofs.PointLaws.{points_fronts}
 use Rattle.text_analysis.proofs.Refused.{items_refused}
-use Rattle.text_analysis.proofs.Silent.{items_silent}
 use Rattle.type_nodes.specs.Views.{numbers}
 use Rattle.weak_variables.specs.Free.{FreeOf, IsFound}
 use Rattle.weak_variables.specs.Search.{lists_of}
@@ -35,9 +33,6 @@ returns-clause-found c =
         end = refl;
       });
     }
-
-pub returns-clause-silent : goal.returns-clause-silent
-returns-clause-silent c = λ typable. ∥∥₁_elim c.args.self.now.known (Bool-set _ _) (λ k. items_silent k.3.ends.given k.2 typable)
 
 pub returns-clause-refused : goal.returns-clause-refused
 returns-clause-refused c = λ lets. ∥∥₁_map c.args.self.now.known (λ k. items_refused k.3.ends.given k.2 c.len-nodes.ensures.plain first_names is_first lets)

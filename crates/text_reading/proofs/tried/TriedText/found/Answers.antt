@@ -1,12 +1,10 @@
-use Rattle.std.proofs.Common.{◌≡◌, List, ℕ, ◌∙◌, ap, map, sym, subst, true}
+use Rattle.std.proofs.Common.{List, ℕ, ◌∙◌, ap, map, sym, subst}
 use Rattle.tree_model.specs.Trees.{Tree}
-use Rattle.typing_model.specs.Typable.{AreTypable}
 use Rattle.fault_model.specs.Refused.{AreOfValues, AreRefused}
 use Rattle.token_store.specs.Stored.{toks_of}
 use Rattle.kept_text.specs.Keeping.{trees_in}
 use Rattle.analysis_api.specs.Types.{AreTyped}
 use Rattle.analysis_api.specs.Faults.{typer_fault_of}
-use Rattle.analysis_api.specs.Warnings.{are_warnings}
 use Rattle.text_reading.specs.Structures.{IsParsedAs}
 use Rattle.text_reading.specs.Trials.{Tried}
 use Rattle.text_reading.specs.Types.{known}
@@ -26,12 +24,6 @@ returns-clause-found g c =
     let typer = c.in-Some-Some.typer.now in
     let holds = bound_items (g.A.Analyser.items typer) (trees_in c.self.inside.kept.tokens) (known g.A.Analyser.items c.self.inside.types) c.in-Some-Some.ensures'.known c.self.invariant.are in
     (typer, holds ∙ sym c.in-Some-Some.ensures.tree, c.found.ensures.found)
-
-pub returns-clause-silent : goal.returns-clause-silent
-returns-clause-silent g c =
-    let typer = c.in-Some-Some.typer.now in
-    let holds = bound_items (g.A.Analyser.items typer) (trees_in c.self.inside.kept.tokens) (known g.A.Analyser.items c.self.inside.types) c.in-Some-Some.ensures'.known c.self.invariant.are in
-    subst (λ (ts : List Tree). AreTypable ts → are_warnings c.found.result.faults.now.list.items ≡ true) (holds ∙ sym c.in-Some-Some.ensures.tree) c.found.ensures.silent
 
 pub returns-clause-refused : goal.returns-clause-refused
 returns-clause-refused g c =
