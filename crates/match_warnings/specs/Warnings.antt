@@ -1,5 +1,5 @@
 -- The warnings of a match.
-use Rattle.std.specs.Prelude.{◌≡◌, ◌⊎◌, List, [], ◌∷◌, ◌++◌, map}
+use Rattle.std.specs.Prelude.{◌≡◌, ◌⊎◌, Bool, true, false, if◌then◌else◌, List, [], ◌∷◌, ◌++◌, map}
 use Rattle.tree_model.specs.Trees.{Place}
 use Rattle.tree_model.specs.Rows.{Row, etry_row}
 use Rattle.syntax_tree.specs.View.{place_of}
@@ -36,10 +36,14 @@ pub record WarnsAtLast (ws : List Warning) (old new : Parts) : Type 0 where
 abbrev pub missed_at : Place → List Warning
 missed_at at = record { kind = fault.Missed; at = at } ∷ []
 
+-- whether a match is a `try`
+unfoldable pub is_try : Row → Bool
+is_try etry_row = true
+is_try _ = false
+
 -- the same of a match, but not of a `try`
 abbrev pub missed_in : Row → Place → List Warning
-missed_in etry_row at = []
-missed_in _ at = missed_at at
+missed_in r at = if is_try r then [] else missed_at at
 
 -- a case that no value reaches
 abbrev pub unused_at : Place → List Warning

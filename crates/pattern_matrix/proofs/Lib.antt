@@ -13,3 +13,4 @@ pub mod Marking
 pub mod Nearness
 pub mod Exactness
 pub mod Showing
+pub mod Labels

@@ -9,3 +9,4 @@ pub mod Rows
 pub mod Marks
 pub mod Typing
 pub mod Exact
+pub mod Printed

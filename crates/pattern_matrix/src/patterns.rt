@@ -1,7 +1,6 @@
 //! The types of patterns and of shapes, and nothing else.
-use std::alloc::{AllocError, Global};
 use std::rc::Rc;
-use text_terms::{NoMemory, RcStr};
+use text_terms::RcStr;
 
 /// A constructor of a type, and how many parts it has. A record is the one constructor of its type: its name is its labels in
 /// the order of the declaration, joined by `; `, in braces, and it has one part a label.
@@ -57,20 +56,3 @@ pub enum Shape {
 
 /// The name of a tuple as the one constructor of its type.
 pub(crate) const TUPLE: &str = "(,)";
-
-impl Pat {
-    /// (p, p)
-    pub fn tuple(alloc: Global, parts: Vec<Pat>) -> Result<Pat, NoMemory> {
-        let name = RcStr::from_str(alloc, TUPLE)?;
-        let mut all = Vec::new(alloc);
-        let built = Built {
-            name: name.share()?,
-            parts: parts.len(),
-        };
-        all.push(built)?;
-        match Rc::new(alloc, all) {
-            Ok(all) => Ok(Pat::Con { all, name, parts }),
-            Err(_) => Err(AllocError),
-        }
-    }
-}

@@ -1,8 +1,8 @@
 -- What comes of demands.
-use Rattle.std.specs.Prelude.{◌≡◌, ◌≢◌, ℕ, List, [], ◌++◌}
+use Rattle.std.specs.Prelude.{◌≡◌, ◌≢◌, ℕ, List}
 use Rattle.text_terms.specs.declared.Span.{Span}
 use Rattle.type_terms.specs.declared.types.NodeRef.{NodeRef}
-use Rattle.type_nodes.specs.Nodes.{Node, IsSound, IsNode}
+use Rattle.type_nodes.specs.Nodes.{IsSound, IsNode}
 use Rattle.env_table.specs.declared.entries.Entry.{Entry}
 use Rattle.env_table.specs.declared.faults.FaultKind.TheVariants as fault
 use Rattle.level_unify.specs.declared.fault.Clash.{Clash}

@@ -1,5 +1,5 @@
 -- The messages of faults.
-use Rattle.std.specs.Prelude.{ℕ, List, [], ◌++◌, codes}
+use Rattle.std.specs.Prelude.{ℕ, List, ◌++◌, codes}
 use Rattle.std.specs.Fmt.{decimal}
 use Rattle.typing_state.specs.declared.messages.Word.{Word}
 use Rattle.typing_state.specs.declared.messages.Word.TheVariants as word

@@ -7,7 +7,7 @@ ghost use Rattle.typing_state.specs.Goes.{Goes, faults_of, OnlyFaults, OnlyIndex
 ghost use Rattle.typing_state.specs.Notes.{Noted, NotedNameless, IsRecorded};
 
 use crate::built_ins::Constants;
-use env_table::{Entry, Env, Fault, FaultKind, Faults, Place, Seen};
+use env_table::{Entry, Env, Fault, FaultKind, Faults, Seen};
 use owned_lists::push;
 use std::alloc::{AllocError, Global};
 use std::collections::HashMap;
@@ -81,15 +81,6 @@ impl Parts {
         ensures { result ≡ self.now.item * 2 ^ 32 + number }
     {
         u64::from(self.item) * 4_294_967_296 + u64::from(number)
-    }
-
-    /// Where a token of the present item is.
-    pub fn place(&self, span: Span) -> Place {
-        if self.item == 0 {
-            Place::Prelude(span)
-        } else {
-            Place::Buffer(span)
-        }
     }
 
     /// Records what is seen at a node of the present item. A node is recorded once: where something is recorded for it

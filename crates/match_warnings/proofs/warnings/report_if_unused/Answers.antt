@@ -1,4 +1,8 @@
-use Rattle.std.proofs.Common.{refl}
+use Rattle.std.proofs.Common.{◌∙◌, refl, sym}
+use Rattle.std.specs.Prelude.{◌==◌}
+use Rattle.std.specs.List.{list_any}
+use Rattle.typing_state.specs.Goes.{faults_of}
+use Rattle.match_warnings.proofs.Reported.{reached, unreached}
 use Rattle.syntax_tree.specs.View.{place_of}
 use Rattle.match_warnings.specs.Warnings.{unused_at}
 use Rattle.env_table.specs.declared.faults.FaultKind.TheVariants as fault
@@ -26,3 +30,12 @@ returns-then-not-contains-clause-places c = none_at (unused_at (place_of c.args.
 
 pub returns-clause-places : goal.returns-clause-places
 returns-clause-places c = report_of_one c.report.result c.args.at.now.telling c.args.at.now c.report.new.self c.args.case fault.Unused _ c.report.ensures.told
+
+pub returns-then-not-contains-clause-which : goal.returns-then-not-contains-clause-which
+returns-then-not-contains-clause-which c =
+    reached (list_any (λ u. u == c.args.place) c.args.unused.now) c.args.at.now.telling (place_of c.args.case) (faults_of c.args.at.now) (sym c.contains.ensures.value ∙ c.if-not-contains.true)
+
+pub returns-clause-which : goal.returns-clause-which
+returns-clause-which c =
+    unreached c.report.result (list_any (λ u. u == c.args.place) c.args.unused.now) c.args.at.now.telling (faults_of c.args.at.now) (faults_of c.report.new.self) c.args.case _ c.in_ok-text.ensures
+    (sym c.contains.ensures.value ∙ c.if-not-contains.false) c.report.ensures.told
